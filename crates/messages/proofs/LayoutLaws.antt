@@ -1,0 +1,237 @@
+-- The laws of layouts, each proved once over the layout: a law about each field, then the list of them.
+use Prim.Native.Nat.{ℕ, _+_, _^_, _<_, _≤_}
+use mathlib.Core.Path.{_≡_, refl, sym, ap, ap₂, _∙_}
+use mathlib.Core.Bool.{Bool, true, false, _&&_, false≢true}
+use mathlib.Core.List.{List, [], _∷_, _++_, append-assoc}
+use native.Mathlib.Omega.{arith}
+use native.Mathlib.Nat.{one-le-pow}
+use borrow.Author.Tests.{eq-eqb, eqb-true, ltb-true, lt-ltb}
+use lib.Dec.{eqb, ltb}
+use lib.ListN.{length, take, drop, length-append, length-take, length-drop}
+use lib.Seq.{take-at, drop-at, take-add, drop-drop}
+use Rattle.messages.specs.Octets.{value, bytes, lowValue, lowBytes, part, Octets}
+use Rattle.messages.specs.Layout.{Field, is, number, low, octets, reserved, Values, width, size, holds, read, encode, fits}
+use Rattle.messages.proofs.OctetLaws.{length-bytes, value-lt, value-bytes, bytes-value, length-low, low-lt, low-value-bytes, low-bytes-value}
+
+pub and-left : (a b : Bool) → (a && b) ≡ true → a ≡ true
+and-left true b e = refl
+and-left false b e = e
+
+pub and-right : (a b : Bool) → (a && b) ≡ true → b ≡ true
+and-right true b e = e
+and-right false b e = absurd (false≢true e)
+
+-- ---- one field
+
+-- its test at a place
+abbrev test : Field → ℕ → List ℕ → Bool
+test (is n v) at s = eqb (value s at n) v
+test (number n) at s = true
+test (low n b) at s = ltb (lowValue s at n) b
+test (octets n) at s = true
+test (reserved n) at s = eqb (value s at n) 0
+
+-- its octets, and the values of the fields behind it
+abbrev pub first : (f : Field) (fs : List Field) → Values (f ∷ fs) → List ℕ
+first (is n v) fs vs = bytes n v
+first (number n) fs vs = bytes n (vs .0)
+first (low n b) fs vs = lowBytes n (vs .0)
+first (octets n) fs vs = vs .0
+first (reserved n) fs vs = bytes n 0
+
+abbrev pub rest : (f : Field) (fs : List Field) → Values (f ∷ fs) → Values fs
+rest (is n v) fs vs = vs
+rest (number n) fs vs = vs .1
+rest (low n b) fs vs = vs .1
+rest (octets n) fs vs = vs .1
+rest (reserved n) fs vs = vs
+
+-- its value fits it
+abbrev pub FitsField : (f : Field) (fs : List Field) → Values (f ∷ fs) → Type 0
+FitsField (is n v) fs vs = v < 256 ^ n
+FitsField (number n) fs vs = vs .0 < 256 ^ n
+FitsField (low n b) fs vs = (vs .0 < b) × (vs .0 < 256 ^ n)
+FitsField (octets n) fs vs = length (vs .0) ≡ n
+FitsField (reserved n) fs vs = 0 < 256 ^ n
+
+-- the values of a layout fit it, as facts
+abbrev pub Fits : (fs : List Field) → Values fs → Type 0
+Fits [] vs = Unit {0}
+Fits (f ∷ fs) vs = FitsField f fs vs × Fits fs (rest f fs vs)
+
+-- each run of any octets has its field's length
+abbrev pub Full : (fs : List Field) → Values fs → Type 0
+Full [] vs = Unit {0}
+Full (is n v ∷ fs) vs = Full fs vs
+Full (number n ∷ fs) vs = Full fs (vs .1)
+Full (low n b ∷ fs) vs = Full fs (vs .1)
+Full (octets n ∷ fs) vs = (length (vs .0) ≡ n) × Full fs (vs .1)
+Full (reserved n ∷ fs) vs = Full fs vs
+
+module _ (fs : List Field) where
+  holds-cons : (f : Field) (at : ℕ) (s : List ℕ) → holds at (f ∷ fs) s ≡ (test f at s && holds (at + width f) fs s)
+  holds-cons (is n v) at s = refl
+  holds-cons (number n) at s = refl
+  holds-cons (low n b) at s = refl
+  holds-cons (octets n) at s = refl
+  holds-cons (reserved n) at s = refl
+
+  pub encode-cons : (f : Field) (vs : Values (f ∷ fs)) → encode (f ∷ fs) vs ≡ first f fs vs ++ encode fs (rest f fs vs)
+  encode-cons (is n v) vs = refl
+  encode-cons (number n) vs = refl
+  encode-cons (low n b) vs = refl
+  encode-cons (octets n) vs = refl
+  encode-cons (reserved n) vs = refl
+
+  rest-read : (f : Field) (at : ℕ) (s : List ℕ) → rest f fs (read at (f ∷ fs) s) ≡ read (at + width f) fs s
+  rest-read (is n v) at s = refl
+  rest-read (number n) at s = refl
+  rest-read (low n b) at s = refl
+  rest-read (octets n) at s = refl
+  rest-read (reserved n) at s = refl
+
+  -- a value that fits has its field's length
+  fits-full : (f : Field) (vs : Values (f ∷ fs)) → FitsField f fs vs → Full fs (rest f fs vs) → Full (f ∷ fs) vs
+  fits-full (is n v) vs h u = u
+  fits-full (number n) vs h u = u
+  fits-full (low n b) vs h u = u
+  fits-full (octets n) vs h u = (h, u)
+  fits-full (reserved n) vs h u = u
+
+  pub full-cons : (f : Field) (vs : Values (f ∷ fs)) → Full (f ∷ fs) vs → (length (first f fs vs) ≡ width f) × Full fs (rest f fs vs)
+  full-cons (is n v) vs h = (length-bytes n v, h)
+  full-cons (number n) vs h = (length-bytes n (vs .0), h)
+  full-cons (low n b) vs h = (length-low n (vs .0), h)
+  full-cons (octets n) vs h = h
+  full-cons (reserved n) vs h = (length-bytes n 0, h)
+
+  -- the octets that were written pass the test, wherever they stand
+  test-first : (f : Field) (vs : Values (f ∷ fs)) (pre behind : List ℕ) → FitsField f fs vs → test f (length pre) (pre ++ (first f fs vs ++ behind)) ≡ true
+  test-first (is n v) vs pre behind h = eq-eqb _ v (value-bytes n v pre behind h)
+  test-first (number n) vs pre behind h = refl
+  test-first (low n b) vs pre behind h = rw (low-value-bytes n (vs .0) pre behind (h .1)) (lt-ltb (vs .0) b (h .0))
+  test-first (octets n) vs pre behind h = refl
+  test-first (reserved n) vs pre behind h = eq-eqb _ 0 (value-bytes n 0 pre behind h)
+
+  -- and reading them gives the field's value
+  read-first : (f : Field) (vs : Values (f ∷ fs)) (pre behind : List ℕ) → FitsField f fs vs
+      → read (length pre + width f) fs (pre ++ (first f fs vs ++ behind)) ≡ rest f fs vs
+      → read (length pre) (f ∷ fs) (pre ++ (first f fs vs ++ behind)) ≡ vs
+  read-first (is n v) vs pre behind h e = e
+  read-first (number n) vs pre behind h e = ap₂ (λ (a : ℕ) (b : Values fs). (a, b)) (value-bytes n (vs .0) pre behind h) e
+  read-first (low n b) vs pre behind h e = ap₂ (λ (a : ℕ) (c : Values fs). (a, c)) (low-value-bytes n (vs .0) pre behind (h .1)) e
+  read-first (octets n) vs pre behind h e =
+      ap₂ (λ (a : List ℕ) (b : Values fs). (a, b)) (ap (take n) (drop-at pre (vs .0 ++ behind) (length pre) refl) ∙ take-at (vs .0) behind n h) e
+  read-first (reserved n) vs pre behind h e = e
+
+  -- the octets that were read are those that stand there
+  first-read : (f : Field) (at : ℕ) (s : List ℕ) → Octets s → at + width f ≤ length s → test f at s ≡ true
+      → first f fs (read at (f ∷ fs) s) ≡ part s at (width f)
+  first-read (is n v) at s o h t = ap (bytes n) (sym (eqb-true (value s at n) v t)) ∙ bytes-value n at s o h
+  first-read (number n) at s o h t = bytes-value n at s o h
+  first-read (low n b) at s o h t = low-bytes-value n at s o h
+  first-read (octets n) at s o h t = refl
+  first-read (reserved n) at s o h t = ap (bytes n) (sym (eqb-true (value s at n) 0 t)) ∙ bytes-value n at s o h
+
+  -- and fit the field
+  fits-read : (f : Field) (at : ℕ) (s : List ℕ) → Octets s → at + width f ≤ length s → test f at s ≡ true → FitsField f fs (read at (f ∷ fs) s)
+  fits-read (is n v) at s o h t = rw (eqb-true (value s at n) v t) at (value-lt s at n o)
+  fits-read (number n) at s o h t = value-lt s at n o
+  fits-read (low n b) at s o h t = (ltb-true (lowValue s at n) b t, low-lt s at n o)
+  fits-read (octets n) at s o h t = rw (length-take, length-drop) (omega arith)
+  fits-read (reserved n) at s o h t = one-le-pow n 256 (omega arith)
+
+  fits-fits : (f : Field) (vs : Values (f ∷ fs)) → fits (f ∷ fs) vs ≡ true → FitsField f fs vs × (fits fs (rest f fs vs) ≡ true)
+  fits-fits (is n v) vs e = (ltb-true v (256 ^ n) (and-left (ltb v (256 ^ n)) (fits fs vs) e), and-right (ltb v (256 ^ n)) (fits fs vs) e)
+  fits-fits (number n) vs e = (ltb-true (vs .0) (256 ^ n) (and-left (ltb (vs .0) (256 ^ n)) (fits fs (vs .1)) e), and-right (ltb (vs .0) (256 ^ n)) (fits fs (vs .1)) e)
+  fits-fits (low n b) vs e =
+      let r = and-right (ltb (vs .0) b) (ltb (vs .0) (256 ^ n) && fits fs (vs .1)) e in
+      ((ltb-true (vs .0) b (and-left (ltb (vs .0) b) (ltb (vs .0) (256 ^ n) && fits fs (vs .1)) e), ltb-true (vs .0) (256 ^ n) (and-left (ltb (vs .0) (256 ^ n)) (fits fs (vs .1)) r)), and-right (ltb (vs .0) (256 ^ n)) (fits fs (vs .1)) r)
+  fits-fits (octets n) vs e = (eqb-true (length (vs .0)) n (and-left (eqb (length (vs .0)) n) (fits fs (vs .1)) e), and-right (eqb (length (vs .0)) n) (fits fs (vs .1)) e)
+  fits-fits (reserved n) vs e = (one-le-pow n 256 (omega arith), e)
+
+  fits-cons : (f : Field) (vs : Values (f ∷ fs)) → FitsField f fs vs → fits fs (rest f fs vs) ≡ true → fits (f ∷ fs) vs ≡ true
+  fits-cons (is n v) vs h e = ap₂ _&&_ (lt-ltb v (256 ^ n) h) e
+  fits-cons (number n) vs h e = ap₂ _&&_ (lt-ltb (vs .0) (256 ^ n) h) e
+  fits-cons (low n b) vs h e = ap₂ _&&_ (lt-ltb (vs .0) b (h .0)) (ap₂ _&&_ (lt-ltb (vs .0) (256 ^ n) (h .1)) e)
+  fits-cons (octets n) vs h e = ap₂ _&&_ (eq-eqb (length (vs .0)) n h) e
+  fits-cons (reserved n) vs h e = e
+
+-- ---- a layout
+
+-- the test of values, as facts and back
+pub to-fits : (fs : List Field) (vs : Values fs) → fits fs vs ≡ true → Fits fs vs
+to-fits [] vs e = tt
+to-fits (f ∷ fs) vs e = let h = fits-fits fs f vs e in (h .0, to-fits fs (rest f fs vs) (h .1))
+
+pub from-fits : (fs : List Field) (vs : Values fs) → Fits fs vs → fits fs vs ≡ true
+from-fits [] vs h = refl
+from-fits (f ∷ fs) vs h = fits-cons fs f vs (h .0) (from-fits fs (rest f fs vs) (h .1))
+
+pub to-full : (fs : List Field) (vs : Values fs) → Fits fs vs → Full fs vs
+to-full [] vs h = tt
+to-full (f ∷ fs) vs h = fits-full fs f vs (h .0) (to-full fs (rest f fs vs) (h .1))
+
+pub length-encode : (fs : List Field) (vs : Values fs) → Full fs vs → length (encode fs vs) ≡ size fs
+length-encode [] vs h = refl
+length-encode (f ∷ fs) vs h =
+    let n = full-cons fs f vs h in
+    ap length (encode-cons fs f vs)
+    ∙ length-append (first f fs vs) (encode fs (rest f fs vs))
+    ∙ ap₂ _+_ (n .0) (length-encode fs (rest f fs vs) (n .1))
+
+-- the field behind the first: the place moves on
+module _ (f : Field) (fs : List Field) (vs : Values (f ∷ fs)) (pre behind : List ℕ) (h : Full (f ∷ fs) vs) where
+  split : pre ++ (encode (f ∷ fs) vs ++ behind) ≡ pre ++ (first f fs vs ++ (encode fs (rest f fs vs) ++ behind))
+  split = ap (λ (l : List ℕ). pre ++ (l ++ behind)) (encode-cons fs f vs) ∙ ap (λ (l : List ℕ). pre ++ l) (append-assoc (first f fs vs) (encode fs (rest f fs vs)) behind)
+
+  moved : pre ++ (first f fs vs ++ (encode fs (rest f fs vs) ++ behind)) ≡ (pre ++ first f fs vs) ++ (encode fs (rest f fs vs) ++ behind)
+  moved = sym (append-assoc pre (first f fs vs) (encode fs (rest f fs vs) ++ behind))
+
+  place : length (pre ++ first f fs vs) ≡ length pre + width f
+  place = length-append pre (first f fs vs) ∙ ap (λ (k : ℕ). length pre + k) (full-cons fs f vs h .0)
+
+-- reading what was written, at any place of a longer list
+pub holds-encode : (fs : List Field) (vs : Values fs) (pre behind : List ℕ) → Fits fs vs → holds (length pre) fs (pre ++ (encode fs vs ++ behind)) ≡ true
+holds-encode [] vs pre behind h = refl
+holds-encode (f ∷ fs) vs pre behind h =
+    let u = to-full (f ∷ fs) vs h in
+    ap (holds (length pre) (f ∷ fs)) (split f fs vs pre behind u)
+    ∙ holds-cons fs f (length pre) (pre ++ (first f fs vs ++ (encode fs (rest f fs vs) ++ behind)))
+    ∙ ap₂ _&&_ (test-first fs f vs pre (encode fs (rest f fs vs) ++ behind) (h .0))
+    (ap₂ (λ (k : ℕ) (l : List ℕ). holds k fs l) (sym (place f fs vs pre behind u)) (moved f fs vs pre behind u)
+    ∙ holds-encode fs (rest f fs vs) (pre ++ first f fs vs) behind (h .1))
+
+pub read-encode : (fs : List Field) (vs : Values fs) (pre behind : List ℕ) → Fits fs vs → read (length pre) fs (pre ++ (encode fs vs ++ behind)) ≡ vs
+read-encode [] vs pre behind h = refl
+read-encode (f ∷ fs) vs pre behind h =
+    let u = to-full (f ∷ fs) vs h in
+    ap (read (length pre) (f ∷ fs)) (split f fs vs pre behind u)
+    ∙ read-first fs f vs pre (encode fs (rest f fs vs) ++ behind) (h .0)
+    (ap₂ (λ (k : ℕ) (l : List ℕ). read k fs l) (sym (place f fs vs pre behind u)) (moved f fs vs pre behind u)
+    ∙ read-encode fs (rest f fs vs) (pre ++ first f fs vs) behind (h .1))
+
+part-more : (s : List ℕ) (at n m : ℕ) → part s at n ++ part s (at + n) m ≡ part s at (n + m)
+part-more s at n m = sym (take-add n m (drop at s) ∙ ap (λ (l : List ℕ). take n (drop at s) ++ take m l) (drop-drop n at s))
+
+-- writing what was read gives the octets that were read, and the values fit
+module _ (s : List ℕ) (o : Octets s) where
+  tests : (f : Field) (fs : List Field) (at : ℕ) → holds at (f ∷ fs) s ≡ true → (test f at s ≡ true) × (holds (at + width f) fs s ≡ true)
+  tests f fs at t =
+      let u : (test f at s && holds (at + width f) fs s) ≡ true = sym (holds-cons fs f at s) ∙ t in
+      (and-left (test f at s) (holds (at + width f) fs s) u, and-right (test f at s) (holds (at + width f) fs s) u)
+
+  pub encode-read : (fs : List Field) (at : ℕ) → at + size fs ≤ length s → holds at fs s ≡ true → encode fs (read at fs s) ≡ part s at (size fs)
+  encode-read [] at h t = refl
+  encode-read (f ∷ fs) at h t =
+      let u = tests f fs at t in
+      encode-cons fs f (read at (f ∷ fs) s)
+      ∙ ap₂ _++_ (first-read fs f at s o (omega arith) (u .0)) (ap (encode fs) (rest-read fs f at s) ∙ encode-read fs (at + width f) (omega arith) (u .1))
+      ∙ part-more s at (width f) (size fs)
+
+  pub read-fits : (fs : List Field) (at : ℕ) → at + size fs ≤ length s → holds at fs s ≡ true → fits fs (read at fs s) ≡ true
+  read-fits [] at h t = refl
+  read-fits (f ∷ fs) at h t =
+      let u = tests f fs at t in
+      fits-cons fs f (read at (f ∷ fs) s) (fits-read fs f at s o (omega arith) (u .0))
+      (ap (fits fs) (rest-read fs f at s) ∙ read-fits fs (at + width f) (omega arith) (u .1))

@@ -1,0 +1,12 @@
+pub mod OctetLaws
+pub mod LoopLaws
+pub mod LayoutLaws
+pub mod TableLaws
+pub mod CheckLaws
+pub mod ReadLaws
+pub mod FrameLaws
+pub mod WriteLaws
+pub mod RoundTrips
+pub mod Distinct
+pub mod NamedCars
+pub mod Cases

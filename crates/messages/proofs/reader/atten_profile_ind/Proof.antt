@@ -1,0 +1,47 @@
+-- The two tests and the message are those of the rule.
+use borrow.Author.Needs.{needs}
+use mathlib.Core.Path.{_∙_}
+use Rattle.messages.proofs.ReadLaws.{decided}
+use Rattle.messages.specs.Table.{attenProfileInd}
+use Rattle.messages.proofs.reader.atten_profile_ind.Statement.{statement}
+use Rattle.messages.proofs.reader.atten_profile_ind.Tie as tie
+
+number-at-requires : tie.Need-number-at-requires
+number-at-requires c κs = search needs
+
+is-unicast-requires : tie.Need-is-unicast-requires
+is-unicast-requires c κs = search needs
+
+is-unicast-requires-2 : tie.Need-is-unicast-requires-2
+is-unicast-requires-2 c κs = search needs
+
+is-unicast-requires-3 : tie.Need-is-unicast-requires-3
+is-unicast-requires-3 c κs = search needs
+
+number-at-requires-2 : tie.Need-number-at-requires-2
+number-at-requires-2 c κs = search needs
+
+is-zero-requires : tie.Need-is-zero-requires
+is-zero-requires c κs = search needs
+
+decide-requires : tie.Need-decide-requires
+decide-requires c κs = search needs
+
+returns : tie.Need-returns
+returns c =
+    let a = c .before .before .before .before .before .before .before .before .args in
+    decided attenProfileInd (a .dst) (a .src) (a .p .now) (c .decide .result)
+    (λ g. c .decide .ensures g ∙ simp (c .before .before .before .before .before .before .number-at .ensures, c .before .before .before .before .before .is-unicast .ensures, c .before .before .before .before .is-unicast2 .ensures, c .before .before .before .is-unicast3 .ensures, c .before .before .number-at2 .ensures, c .before .is-zero .ensures))
+
+pub atten-profile-ind-spec : {M : Type 1} → statement M
+atten-profile-ind-spec =
+    tie.close
+    (tie.spec
+    number-at-requires
+    is-unicast-requires
+    is-unicast-requires-2
+    is-unicast-requires-3
+    number-at-requires-2
+    is-zero-requires
+    decide-requires
+    returns)

@@ -1,0 +1,55 @@
+-- The two tests and the message are those of the rule.
+use borrow.Author.Needs.{needs}
+use mathlib.Core.Path.{_∙_}
+use Rattle.messages.proofs.ReadLaws.{decided}
+use Rattle.messages.specs.Table.{mnbcSoundInd}
+use Rattle.messages.proofs.reader.mnbc_sound_ind.Statement.{statement}
+use Rattle.messages.proofs.reader.mnbc_sound_ind.Tie as tie
+
+octet-at-requires : tie.Need-octet-at-requires
+octet-at-requires c κs = search needs
+
+number-at-requires : tie.Need-number-at-requires
+number-at-requires c κs = search needs
+
+number-at-requires-2 : tie.Need-number-at-requires-2
+number-at-requires-2 c κs = search needs
+
+number-at-requires-3 : tie.Need-number-at-requires-3
+number-at-requires-3 c κs = search needs
+
+is-unicast-requires : tie.Need-is-unicast-requires
+is-unicast-requires c κs = search needs
+
+is-zero-requires : tie.Need-is-zero-requires
+is-zero-requires c κs = search needs
+
+is-zero-requires-2 : tie.Need-is-zero-requires-2
+is-zero-requires-2 c κs = search needs
+
+is-zero-requires-3 : tie.Need-is-zero-requires-3
+is-zero-requires-3 c κs = search needs
+
+decide-requires : tie.Need-decide-requires
+decide-requires c κs = search needs
+
+returns : tie.Need-returns
+returns c =
+    let a = c .before .before .before .before .before .before .before .before .before .before .args in
+    decided mnbcSoundInd (a .dst) (a .src) (a .p .now) (c .decide .result)
+    (λ g. c .decide .ensures g ∙ simp (c .before .before .before .before .before .before .before .before .octet-at .ensures, c .before .before .before .before .before .before .before .number-at .ensures, c .before .before .before .before .before .before .number-at2 .ensures, c .before .before .before .before .before .number-at3 .ensures, c .before .before .before .before .is-unicast .ensures, c .before .before .before .is-zero .ensures, c .before .before .is-zero2 .ensures, c .before .is-zero3 .ensures))
+
+pub mnbc-sound-ind-spec : {M : Type 1} → statement M
+mnbc-sound-ind-spec =
+    tie.close
+    (tie.spec
+    octet-at-requires
+    number-at-requires
+    number-at-requires-2
+    number-at-requires-3
+    is-unicast-requires
+    is-zero-requires
+    is-zero-requires-2
+    is-zero-requires-3
+    decide-requires
+    returns)

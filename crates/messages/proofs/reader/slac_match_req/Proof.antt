@@ -1,0 +1,42 @@
+-- The two tests and the message are those of the rule.
+use borrow.Author.Needs.{needs}
+use mathlib.Core.Bool.{true}
+use mathlib.Core.List.{[]}
+use mathlib.Core.Path.{sym, _∙_}
+use Rattle.messages.proofs.ReadLaws.{decided, joined-holds}
+use Rattle.messages.specs.Table.{matchFields, slacMatchReq}
+use Rattle.messages.proofs.reader.slac_match_req.Statement.{statement}
+use Rattle.messages.proofs.reader.slac_match_req.Tie as tie
+
+number-at-requires : tie.Need-number-at-requires
+number-at-requires c κs = search needs
+
+is-unicast-requires : tie.Need-is-unicast-requires
+is-unicast-requires c κs = search needs
+
+is-unicast-requires-2 : tie.Need-is-unicast-requires-2
+is-unicast-requires-2 c κs = search needs
+
+is-match-requires : tie.Need-is-match-requires
+is-match-requires c κs = search needs
+
+decide-requires : tie.Need-decide-requires
+decide-requires c κs = search needs
+
+returns : tie.Need-returns
+returns c =
+    let a = c .before .before .before .before .before .before .args in
+    let tests = sym (joined-holds (matchFields 0x3E00 (a .src) (a .dst) []) true 0 (a .p .now)) in
+    decided slacMatchReq (a .dst) (a .src) (a .p .now) (c .decide .result)
+    (λ g. c .decide .ensures g ∙ simp (c .before .before .before .before .number-at .ensures, c .before .before .before .is-unicast .ensures, c .before .before .is-unicast2 .ensures, c .before .is-match .ensures, tests))
+
+pub slac-match-req-spec : {M : Type 1} → statement M
+slac-match-req-spec =
+    tie.close
+    (tie.spec
+    number-at-requires
+    is-unicast-requires
+    is-unicast-requires-2
+    is-match-requires
+    decide-requires
+    returns)

@@ -1,0 +1,59 @@
+-- The two tests and the message are those of the rule.
+use borrow.Author.Needs.{needs}
+use mathlib.Core.Path.{_∙_}
+use Rattle.messages.proofs.ReadLaws.{decided}
+use Rattle.messages.specs.Table.{slacParmCnf}
+use Rattle.messages.proofs.reader.slac_parm_cnf.Statement.{statement}
+use Rattle.messages.proofs.reader.slac_parm_cnf.Tie as tie
+
+number-at-requires : tie.Need-number-at-requires
+number-at-requires c κs = search needs
+
+is-unicast-requires : tie.Need-is-unicast-requires
+is-unicast-requires c κs = search needs
+
+is-unicast-requires-2 : tie.Need-is-unicast-requires-2
+is-unicast-requires-2 c κs = search needs
+
+number-at-requires-2 : tie.Need-number-at-requires-2
+number-at-requires-2 c κs = search needs
+
+number-at-requires-3 : tie.Need-number-at-requires-3
+number-at-requires-3 c κs = search needs
+
+number-at-requires-4 : tie.Need-number-at-requires-4
+number-at-requires-4 c κs = search needs
+
+number-at-requires-5 : tie.Need-number-at-requires-5
+number-at-requires-5 c κs = search needs
+
+number-at-requires-6 : tie.Need-number-at-requires-6
+number-at-requires-6 c κs = search needs
+
+is-zero-requires : tie.Need-is-zero-requires
+is-zero-requires c κs = search needs
+
+decide-requires : tie.Need-decide-requires
+decide-requires c κs = search needs
+
+returns : tie.Need-returns
+returns c =
+    let a = c .before .before .before .before .before .before .before .before .before .before .before .args in
+    decided slacParmCnf (a .dst) (a .src) (a .p .now) (c .decide .result)
+    (λ g. c .decide .ensures g ∙ simp (c .before .before .before .before .before .before .before .before .before .number-at .ensures, c .before .before .before .before .before .before .before .before .is-unicast .ensures, c .before .before .before .before .before .before .before .is-unicast2 .ensures, c .before .before .before .before .before .before .number-at2 .ensures, c .before .before .before .before .before .number-at3 .ensures, c .before .before .before .before .number-at4 .ensures, c .before .before .before .number-at5 .ensures, c .before .before .number-at6 .ensures, c .before .is-zero .ensures))
+
+pub slac-parm-cnf-spec : {M : Type 1} → statement M
+slac-parm-cnf-spec =
+    tie.close
+    (tie.spec
+    number-at-requires
+    is-unicast-requires
+    is-unicast-requires-2
+    number-at-requires-2
+    number-at-requires-3
+    number-at-requires-4
+    number-at-requires-5
+    number-at-requires-6
+    is-zero-requires
+    decide-requires
+    returns)

@@ -1,0 +1,126 @@
+-- By the message.
+use borrow.Author.Needs.{needs}
+use mathlib.Core.Bool.{Bool, true}
+use mathlib.Core.Path.{ap, _∙_}
+use Rattle.messages.proofs.WriteLaws.{headed}
+use Rattle.messages.specs.Private.{toOne}
+use Rattle.messages.specs.declared.kinds.Kind.the-variants.{AttenProfileInd}
+use Rattle.messages.proofs.writer.head_of.Statement.{statement}
+use Rattle.messages.proofs.writer.head_of.Tie as tie
+
+enum-known-message : tie.Need-enum-known-message
+enum-known-message c = search needs
+
+to-all-requires : tie.Need-to-all-requires
+to-all-requires c κs = search needs
+
+enum-known-message-2 : tie.Need-enum-known-message-2
+enum-known-message-2 c = search needs
+
+to-one-requires : tie.Need-to-one-requires
+to-one-requires c κs = search needs
+
+enum-known-message-3 : tie.Need-enum-known-message-3
+enum-known-message-3 c = search needs
+
+to-all-requires-2 : tie.Need-to-all-requires-2
+to-all-requires-2 c κs = search needs
+
+enum-known-message-4 : tie.Need-enum-known-message-4
+enum-known-message-4 c = search needs
+
+to-one-requires-2 : tie.Need-to-one-requires-2
+to-one-requires-2 c κs = search needs
+
+enum-known-message-5 : tie.Need-enum-known-message-5
+enum-known-message-5 c = search needs
+
+to-one-requires-3 : tie.Need-to-one-requires-3
+to-one-requires-3 c κs = search needs
+
+enum-known-message-6 : tie.Need-enum-known-message-6
+enum-known-message-6 c = search needs
+
+to-all-requires-3 : tie.Need-to-all-requires-3
+to-all-requires-3 c κs = search needs
+
+enum-known-message-7 : tie.Need-enum-known-message-7
+enum-known-message-7 c = search needs
+
+to-one-requires-4 : tie.Need-to-one-requires-4
+to-one-requires-4 c κs = search needs
+
+enum-known-message-8 : tie.Need-enum-known-message-8
+enum-known-message-8 c = search needs
+
+to-one-requires-5 : tie.Need-to-one-requires-5
+to-one-requires-5 c κs = search needs
+
+enum-known-message-9 : tie.Need-enum-known-message-9
+enum-known-message-9 c = search needs
+
+is-unicast-requires : tie.Need-is-unicast-requires
+is-unicast-requires c κs = search needs
+
+to-one-requires-6 : tie.Need-to-one-requires-6
+to-one-requires-6 c κs = search needs
+
+returns : tie.Need-returns
+returns c = λ g l. headed g l _ _ _ (c .before .before .message .given .1) (search needs) (c .to-all .ensures)
+
+returns-2 : tie.Need-returns-2
+returns-2 c = λ g l. headed g l _ _ _ (c .before .before .message2 .given .1) (search needs) (c .to-one .ensures)
+
+returns-3 : tie.Need-returns-3
+returns-3 c = λ g l. headed g l _ _ _ (c .before .before .message3 .given .1) (search needs) (c .to-all2 .ensures)
+
+returns-4 : tie.Need-returns-4
+returns-4 c = λ g l. headed g l _ _ _ (c .before .before .message4 .given .1) (search needs) (c .to-one2 .ensures)
+
+returns-5 : tie.Need-returns-5
+returns-5 c = λ g l. headed g l _ _ _ (c .before .before .message5 .given .1) (search needs) (c .to-one3 .ensures)
+
+returns-6 : tie.Need-returns-6
+returns-6 c = λ g l. headed g l _ _ _ (c .before .before .message6 .given .1) (search needs) (c .to-all3 .ensures)
+
+returns-7 : tie.Need-returns-7
+returns-7 c = λ g l. headed g l _ _ _ (c .before .before .message7 .given .1) (search needs) (c .to-one4 .ensures)
+
+returns-8 : tie.Need-returns-8
+returns-8 c = λ g l. headed g l _ _ _ (c .before .before .before .message8 .given .1) (search needs) (c .to-one5 .ensures)
+
+returns-9 : tie.Need-returns-9
+returns-9 c = λ g l. headed g l _ _ _ (c .before .before .before .message9 .given .1) tt (c .to-one6 .ensures ∙ ap (λ (b : Bool). toOne AttenProfileInd (c .before .before .before .message9 .given .0 .1 .0 .0) (c .before .before .before .message9 .given .0 .0 .0) b true) (c .before .is-unicast .ensures))
+
+pub head-of-spec : {M : Type 1} → statement M
+head-of-spec =
+    tie.close
+    (tie.spec
+    enum-known-message
+    to-all-requires
+    enum-known-message-2
+    to-one-requires
+    enum-known-message-3
+    to-all-requires-2
+    enum-known-message-4
+    to-one-requires-2
+    enum-known-message-5
+    to-one-requires-3
+    enum-known-message-6
+    to-all-requires-3
+    enum-known-message-7
+    to-one-requires-4
+    enum-known-message-8
+    to-one-requires-5
+    enum-known-message-9
+    is-unicast-requires
+    to-one-requires-6
+    returns
+    returns-2
+    returns-3
+    returns-4
+    returns-5
+    returns-6
+    returns-7
+    returns-8
+    returns-9)

@@ -1,0 +1,43 @@
+-- The fields one after another.
+use borrow.Author.Needs.{needs}
+use lib.ListN.{length}
+use mathlib.Core.Path.{_≡_}
+use Rattle.messages.proofs.WriteLaws.{store-encode}
+use Rattle.messages.specs.Table.{groupCount, payload, attenProfileInd}
+use Rattle.messages.proofs.writer.put_atten_profile_ind.Statement.{statement}
+use Rattle.messages.proofs.writer.put_atten_profile_ind.Tie as tie
+
+-- the group values are as many as the type says
+whole : (c : tie.Start) → length (c .args .groups) ≡ groupCount
+whole c = search needs
+
+put-number-requires : tie.Need-put-number-requires
+put-number-requires c κs = search needs
+
+put-number-requires-2 : tie.Need-put-number-requires-2
+put-number-requires-2 c κs = search needs
+
+put-number-requires-3 : tie.Need-put-number-requires-3
+put-number-requires-3 c κs = search needs
+
+put-groups-requires : tie.Need-put-groups-requires
+put-groups-requires c κs = search needs
+
+same-length : tie.Need-same-length
+same-length c = search needs
+
+returns : tie.Need-returns
+returns c =
+    let a = c .before .before .before .before .before .before .before .before .before .before .before .before .before .before .before .before .before .args in
+    λ d f. rw (c .before .before .put-groups .ensures, c .before .before .before .before .before .before .put-number3 .ensures, c .before .before .before .before .before .before .before .before .before .before .put-number2 .ensures, c .before .before .before .before .before .before .before .before .before .before .before .before .before .before .put-number .ensures) (store-encode (payload attenProfileInd d f) (a .car, (a .groups, tt)) 0 (a .out .now) (whole (c .before .before .before .before .before .before .before .before .before .before .before .before .before .before .before .before .before), tt))
+
+pub put-atten-profile-ind-spec : {M : Type 1} → statement M
+put-atten-profile-ind-spec =
+    tie.close
+    (tie.spec
+    put-number-requires
+    put-number-requires-2
+    put-number-requires-3
+    put-groups-requires
+    same-length
+    returns)

@@ -1,0 +1,24 @@
+-- The fields one after another.
+use borrow.Author.Needs.{needs}
+use Rattle.messages.proofs.WriteLaws.{store-encode}
+use Rattle.messages.specs.Table.{payload, slacParmReq}
+use Rattle.messages.proofs.writer.put_slac_parm_req.Statement.{statement}
+use Rattle.messages.proofs.writer.put_slac_parm_req.Tie as tie
+
+put-number-requires : tie.Need-put-number-requires
+put-number-requires c κs = search needs
+
+put-number-requires-2 : tie.Need-put-number-requires-2
+put-number-requires-2 c κs = search needs
+
+same-length : tie.Need-same-length
+same-length c = search needs
+
+returns : tie.Need-returns
+returns c =
+    let a = c .before .before .before .before .before .before .before .before .before .args in
+    λ d f. rw (c .before .before .put-number2 .ensures, c .before .before .before .before .before .before .put-number .ensures) (store-encode (payload slacParmReq d f) (a .run, tt) 0 (a .out .now) tt)
+
+pub put-slac-parm-req-spec : {M : Type 1} → statement M
+put-slac-parm-req-spec =
+    tie.close (tie.spec put-number-requires put-number-requires-2 same-length returns)

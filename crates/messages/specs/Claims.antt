@@ -1,0 +1,43 @@
+-- What is proved of the definitions: the two round trips of demand 2, that answers are told apart, and that cars are unicast.
+use Prim.Native.Nat.{ℕ}
+use mathlib.Core.Path.{_≡_}
+use mathlib.Core.Bool.{true}
+use mathlib.Core.List.{List, _++_}
+use mathlib.Core.Option.{some}
+use lib.Dec.{leb}
+use lib.ListN.{take}
+use Rattle.messages.specs.Octets.{Octets}
+use Rattle.messages.specs.Table.{isUnicast, filledSize, writtenSize, Message}
+use Rattle.messages.specs.Reading.{yes, check, readRules, carOf}
+use Rattle.messages.specs.Writing.{padding, writeRules}
+use Rattle.messages.specs.Answers.{numberOf, answerOf, writtenOf}
+use Rattle.messages.specs.declared.CarAddress.{CarAddress}
+use Rattle.messages.specs.declared.Refusal.{Refusal}
+use Rattle.messages.specs.declared.ReadAnswer.{ReadAnswer}
+use Rattle.messages.specs.declared.Written.{Written}
+
+-- reading what was written gives the message, for every message that writing accepts
+abbrev pub ReadsWritten : Type 0
+ReadsWritten = (m : Message) (n : ℕ) (ws : List ℕ) → writeRules m n ≡ yes ws → readRules ws ≡ yes m
+
+-- writing what was read gives the same frame, padding zeroed, full length, for every octet list that reading accepts
+abbrev pub WritesRead : Type 0
+WritesRead =
+    (s : List ℕ) (m : Message) → Octets s → readRules s ≡ yes m
+    → (n : ℕ) → writeRules m n ≡ check (leb (writtenSize (m .kind)) n) 15 (yes (take (filledSize (m .kind)) s ++ padding (m .kind)))
+
+-- each refusal has a number of its own
+abbrev pub NumbersDiffer : Type 0
+NumbersDiffer = (x y : Refusal) → numberOf x ≡ numberOf y → x ≡ y
+
+-- each answer of reading has a meaning of its own, with whatever group values
+abbrev pub AnswersDiffer : Type 0
+AnswersDiffer = (a b : ReadAnswer) (g : List ℕ) → answerOf a g ≡ answerOf b g → a ≡ b
+
+-- each answer of writing has a meaning of its own
+abbrev pub WrittenDiffer : Type 0
+WrittenDiffer = (a b : Written) → writtenOf a ≡ writtenOf b → a ≡ b
+
+-- a car that a frame names has a unicast address
+abbrev pub CarsUnicast : Type 0
+CarsUnicast = (s : List ℕ) (c : CarAddress) → carOf (readRules s) ≡ some c → isUnicast (c .0) ≡ true

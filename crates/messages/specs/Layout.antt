@@ -1,0 +1,77 @@
+-- Layouts: a run of octets as a list of fields, read and written by one definition each.
+use Prim.Native.Nat.{ℕ, _+_, _^_}
+use mathlib.Core.Bool.{Bool, true, _&&_}
+use mathlib.Core.List.{List, [], _∷_, _++_}
+use lib.Dec.{eqb, ltb}
+use lib.ListN.{length}
+use Rattle.messages.specs.Octets.{value, bytes, lowValue, lowBytes, part}
+
+pub data Field : Type 0 where
+  -- n octets that hold the number v: fixed octets, zero runs, and octets equal to an address
+  is : ℕ → ℕ → Field
+  -- n octets that hold any number
+  number : ℕ → Field
+  -- n octets that hold, low octet first, a number below b
+  low : ℕ → ℕ → Field
+  -- n octets, any
+  octets : ℕ → Field
+  -- n octets that the ISO tables call RSVD: zero, and checked
+  reserved : ℕ → Field
+
+-- what a layout leaves open: one value for each number, low and octets field
+abbrev pub Values : List Field → Type 0
+Values [] = Unit {0}
+Values (is n v ∷ fs) = Values fs
+Values (number n ∷ fs) = ℕ × Values fs
+Values (low n b ∷ fs) = ℕ × Values fs
+Values (octets n ∷ fs) = List ℕ × Values fs
+Values (reserved n ∷ fs) = Values fs
+
+-- how many octets a field takes
+abbrev pub width : Field → ℕ
+width (is n v) = n
+width (number n) = n
+width (low n b) = n
+width (octets n) = n
+width (reserved n) = n
+
+-- how many octets a layout takes
+abbrev pub size : List Field → ℕ
+size [] = 0
+size (f ∷ fs) = width f + size fs
+
+-- every fixed, equal-to or limited octet of the layout is right, in s from `at`
+abbrev pub holds : ℕ → List Field → List ℕ → Bool
+holds at [] s = true
+holds at (is n v ∷ fs) s = eqb (value s at n) v && holds (at + n) fs s
+holds at (number n ∷ fs) s = holds (at + n) fs s
+holds at (low n b ∷ fs) s = ltb (lowValue s at n) b && holds (at + n) fs s
+holds at (octets n ∷ fs) s = holds (at + n) fs s
+holds at (reserved n ∷ fs) s = eqb (value s at n) 0 && holds (at + n) fs s
+
+-- the values that stand in s from `at`
+abbrev pub read : ℕ → (fs : List Field) → List ℕ → Values fs
+read at [] s = tt
+read at (is n v ∷ fs) s = read (at + n) fs s
+read at (number n ∷ fs) s = (value s at n, read (at + n) fs s)
+read at (low n b ∷ fs) s = (lowValue s at n, read (at + n) fs s)
+read at (octets n ∷ fs) s = (part s at n, read (at + n) fs s)
+read at (reserved n ∷ fs) s = read (at + n) fs s
+
+-- the octets of the layout with these values
+abbrev pub encode : (fs : List Field) → Values fs → List ℕ
+encode [] vs = []
+encode (is n v ∷ fs) vs = bytes n v ++ encode fs vs
+encode (number n ∷ fs) vs = bytes n (vs .0) ++ encode fs (vs .1)
+encode (low n b ∷ fs) vs = lowBytes n (vs .0) ++ encode fs (vs .1)
+encode (octets n ∷ fs) vs = vs .0 ++ encode fs (vs .1)
+encode (reserved n ∷ fs) vs = bytes n 0 ++ encode fs vs
+
+-- the values fit their fields
+abbrev pub fits : (fs : List Field) → Values fs → Bool
+fits [] vs = true
+fits (is n v ∷ fs) vs = ltb v (256 ^ n) && fits fs vs
+fits (number n ∷ fs) vs = ltb (vs .0) (256 ^ n) && fits fs (vs .1)
+fits (low n b ∷ fs) vs = ltb (vs .0) b && (ltb (vs .0) (256 ^ n) && fits fs (vs .1))
+fits (octets n ∷ fs) vs = eqb (length (vs .0)) n && fits fs (vs .1)
+fits (reserved n ∷ fs) vs = fits fs vs

@@ -1,0 +1,9 @@
+pub mod Octets
+pub mod Layout
+pub mod Table
+pub mod Reading
+pub mod Writing
+pub mod Answers
+pub mod Private
+pub mod Claims
+pub mod Cases

@@ -1,0 +1,204 @@
+// The nine messages of SLAC matching (ISO 15118-3 Annex A over HomePlug Green PHY): reading and writing their frames.
+mod kinds;
+mod octets;
+mod reader;
+mod writer;
+
+use kinds::KindAnswer;
+ghost use mathlib.Core.Path.{_≡_};
+ghost use lib.ListN.{length};
+ghost use Rattle.messages.specs.Octets.{splice};
+ghost use Rattle.messages.specs.Table.{isUnicast};
+ghost use Rattle.messages.specs.Reading.{readRules, groupsOf, noGroups};
+ghost use Rattle.messages.specs.Writing.{writeRules, lengthOf, octetsOf};
+ghost use Rattle.messages.specs.Answers.{messageOf, answerOf, writtenOf};
+
+// A charging station's address: its six octets as a number, first octet most significant.
+pub struct StationAddress(pub u64);
+
+// A car's address.
+pub struct CarAddress(pub u64);
+
+// The address of the modem that a station is driven through.
+pub struct ModemAddress(pub u64);
+
+// The RunID of one matching: its eight octets as a number, first octet most significant.
+pub struct RunId(pub u64);
+
+// The network ID: its seven octets as a number, low octet first; below 2^54 where it is a valid one.
+pub struct Nid(pub u64);
+
+// The network membership key: its first and its last eight octets.
+pub struct Nmk(pub u64, pub u64);
+
+// The random value of M-SOUND: its first and its last eight octets.
+pub struct Random(pub u64, pub u64);
+
+// How many group values ATTEN_PROFILE has.
+pub const GROUPS: usize = 58;
+
+// The group values of ATTEN_PROFILE.
+pub type GroupValues = [u8; GROUPS];
+
+// Why a call gives no answer, in the order of the numbers 1 to 17.
+pub enum Refusal {
+    TooShort,
+    BadHead,
+    UnknownType,
+    TooLong,
+    BadAddress,
+    BadOctet,
+    NotForUs,
+    WrongState,
+    AdmissionClosed,
+    RecordsFull,
+    NoRecord,
+    WrongPhase,
+    BadSoundCount,
+    TickGap,
+    OutputTooShort,
+    BadConfiguration,
+    OnlyForCars,
+}
+
+// A message without its group values.
+pub enum Message {
+    SlacParmReq {
+        car: CarAddress,
+        run: RunId,
+    },
+    SlacParmCnf {
+        station: StationAddress,
+        car: CarAddress,
+        run: RunId,
+    },
+    StartAttenCharInd {
+        car: CarAddress,
+        run: RunId,
+    },
+    AttenCharInd {
+        station: StationAddress,
+        car: CarAddress,
+        run: RunId,
+        sounds: u8,
+    },
+    AttenCharRsp {
+        car: CarAddress,
+        station: StationAddress,
+        run: RunId,
+    },
+    MnbcSoundInd {
+        car: CarAddress,
+        count: u8,
+        run: RunId,
+        random: Random,
+    },
+    SlacMatchReq {
+        car: CarAddress,
+        station: StationAddress,
+        run: RunId,
+    },
+    SlacMatchCnf {
+        station: StationAddress,
+        car: CarAddress,
+        run: RunId,
+        nid: Nid,
+        nmk: Nmk,
+    },
+    AttenProfileInd {
+        modem: ModemAddress,
+        station: StationAddress,
+        car: CarAddress,
+    },
+}
+
+// What reading gives.
+pub enum ReadAnswer {
+    Read(Message),
+    Refused(Refusal),
+}
+
+// What writing gives: how many octets the frame takes.
+pub enum Written {
+    Octets(usize),
+    Refused(Refusal),
+}
+
+// The broadcast address: six FF.
+pub const BROADCAST: u64 = 0xFFFFFFFFFFFF;
+
+// The first number that is no NID: 2^54.
+pub const NID_LIMIT: u64 = 0x40000000000000;
+
+// Whether an address is a unicast one: 48 bits, not all zero, an even first octet.
+pub fn is_unicast(address: u64) -> bool
+    ensures { λ r. ⌜ r ≡ isUnicast address ⌝ }
+{
+    (address != 0) & (address < 0x1000000000000) & (address / 0x10000000000 % 2 == 0)
+}
+
+// Reads a frame: any octets, of any length.
+pub fn read(frame: &[u8]) -> ReadAnswer
+    ensures { λ r. ⌜ answerOf r (groupsOf (readRules (now (frame .entry)))) ≡ readRules (now (frame .entry)) ⌝ }
+{
+    let found = kinds::kind_in(frame);
+    match found {
+        KindAnswer::Found(kind) => reader::body(frame, kind),
+        KindAnswer::Refused(refusal) => ReadAnswer::Refused(refusal),
+    }
+}
+
+// The group values of the message that a frame reads as; zeros where it has none or cannot be read.
+pub fn groups(frame: &[u8]) -> GroupValues
+    ensures { λ r. ⌜ r ≡ groupsOf (readRules (now (frame .entry))) ⌝ }
+{
+    let answer = read(frame);
+    let ReadAnswer::Read(message) = answer else {
+        return no_groups();
+    };
+    match message {
+        Message::AttenCharInd {
+            station: _,
+            car: _,
+            run: _,
+            sounds: _,
+        } => octets::groups_at(frame, kinds::HEAD + 52),
+        Message::AttenProfileInd {
+            modem: _,
+            station: _,
+            car: _,
+        } => octets::groups_at(frame, kinds::HEAD + 8),
+        _ => no_groups(),
+    }
+}
+
+// Zeros in the place of group values.
+fn no_groups() -> GroupValues
+    ensures { λ r. ⌜ r ≡ noGroups ⌝ }
+{
+    [0; GROUPS]
+}
+
+// Writes a message's frame from the first octet of an output; a refusal changes nothing.
+pub fn write(message: Message, groups: GroupValues, out: &mut [u8]) -> Written
+    ensures { λ r. ⌜ writtenOf r ≡ lengthOf (writeRules (messageOf message groups) (length (now (out .entry)))) ⌝ }
+    ensures { λ r. ⌜ now (out .exit) ≡ splice 0 (octetsOf (writeRules (messageOf message groups) (length (now (out .entry))))) (now (out .entry)) ⌝ }
+{
+    let head = writer::head_of(message);
+    if head.addressed {
+        if head.limited {
+            let kind = head.kind;
+            let written = kinds::written_size(kind);
+            if written <= out.len() {
+                writer::put_frame(out, head, message, groups);
+                Written::Octets(written)
+            } else {
+                Written::Refused(Refusal::OutputTooShort)
+            }
+        } else {
+            Written::Refused(Refusal::BadOctet)
+        }
+    } else {
+        Written::Refused(Refusal::BadAddress)
+    }
+}

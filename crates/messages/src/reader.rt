@@ -1,0 +1,263 @@
+// Reading a payload, a function for each message. Places are those of document 01's payload octets.
+use crate::BROADCAST;
+use crate::CarAddress;
+use crate::Message;
+use crate::ModemAddress;
+use crate::NID_LIMIT;
+use crate::Nid;
+use crate::Nmk;
+use crate::Random;
+use crate::ReadAnswer;
+use crate::Refusal;
+use crate::RunId;
+use crate::StationAddress;
+use crate::is_unicast;
+use crate::kinds::HEAD;
+use crate::kinds::Kind;
+use crate::octets::is_zero;
+use crate::octets::low_number_at;
+use crate::octets::number_at;
+use crate::octets::octet_at;
+ghost use mathlib.Core.Path.{_≡_};
+ghost use mathlib.Core.List.{List, []};
+ghost use Prim.Native.Nat.{ℕ, _≤_};
+ghost use lib.ListN.{length};
+ghost use Rattle.messages.specs.Table.{slacParmReq, slacParmCnf, startAttenCharInd, attenCharInd, attenCharRsp, mnbcSoundInd, slacMatchReq, slacMatchCnf, attenProfileInd, payloadSize, filledSize, matchFields};
+ghost use Rattle.messages.specs.Layout.{size, holds};
+ghost use Rattle.messages.specs.Reading.{check, yes, payloadRules, frameRules};
+ghost use Rattle.messages.specs.Answers.{messageOf, answerOf};
+ghost use Rattle.messages.specs.Private.{kindOf, Reads};
+
+// The message, unless an address (5) or a fixed octet (6) is wrong.
+fn decide(addresses: bool, fixed: bool, message: Message) -> ReadAnswer
+    ensures { λ r. ⌜ ((g : List ℕ) → answerOf r g ≡ check addresses 5 (check fixed 6 (yes (messageOf message g)))) ⌝ }
+{
+    if addresses {
+        if fixed {
+            ReadAnswer::Read(message)
+        } else {
+            ReadAnswer::Refused(Refusal::BadOctet)
+        }
+    } else {
+        ReadAnswer::Refused(Refusal::BadAddress)
+    }
+}
+
+fn slac_parm_req(p: &[u8], dst: u64, src: u64) -> ReadAnswer
+    requires { ⌜ payloadSize slacParmReq ≤ length (now p) ⌝ }
+    ensures { λ r. ⌜ Reads r (payloadRules slacParmReq dst src (now (p .entry))) ⌝ }
+{
+    let run = number_at(p, 2, 8);
+    let addresses = is_unicast(src) & (dst == BROADCAST);
+    let fixed = is_zero(p, 0, 2);
+    decide(
+        addresses,
+        fixed,
+        Message::SlacParmReq {
+            car: CarAddress(src),
+            run: RunId(run),
+        },
+    )
+}
+
+fn slac_parm_cnf(p: &[u8], dst: u64, src: u64) -> ReadAnswer
+    requires { ⌜ payloadSize slacParmCnf ≤ length (now p) ⌝ }
+    ensures { λ r. ⌜ Reads r (payloadRules slacParmCnf dst src (now (p .entry))) ⌝ }
+{
+    let run = number_at(p, 17, 8);
+    let addresses = is_unicast(src) & is_unicast(dst);
+    let fixed = (number_at(p, 0, 6) == BROADCAST)
+        & (number_at(p, 6, 1) == 0x0A)
+        & (number_at(p, 7, 1) == 0x06)
+        & (number_at(p, 8, 1) == 0x01)
+        & (number_at(p, 9, 6) == dst)
+        & is_zero(p, 15, 2);
+    decide(
+        addresses,
+        fixed,
+        Message::SlacParmCnf {
+            station: StationAddress(src),
+            car: CarAddress(dst),
+            run: RunId(run),
+        },
+    )
+}
+
+fn start_atten_char_ind(p: &[u8], dst: u64, src: u64) -> ReadAnswer
+    requires { ⌜ payloadSize startAttenCharInd ≤ length (now p) ⌝ }
+    ensures { λ r. ⌜ Reads r (payloadRules startAttenCharInd dst src (now (p .entry))) ⌝ }
+{
+    let run = number_at(p, 11, 8);
+    let addresses = is_unicast(src) & (dst == BROADCAST);
+    let fixed = is_zero(p, 0, 2)
+        & (number_at(p, 2, 1) == 0x0A)
+        & (number_at(p, 3, 1) == 0x06)
+        & (number_at(p, 4, 1) == 0x01)
+        & (number_at(p, 5, 6) == src);
+    decide(
+        addresses,
+        fixed,
+        Message::StartAttenCharInd {
+            car: CarAddress(src),
+            run: RunId(run),
+        },
+    )
+}
+
+fn mnbc_sound_ind(p: &[u8], dst: u64, src: u64) -> ReadAnswer
+    requires { ⌜ payloadSize mnbcSoundInd ≤ length (now p) ⌝ }
+    ensures { λ r. ⌜ Reads r (payloadRules mnbcSoundInd dst src (now (p .entry))) ⌝ }
+{
+    let count = octet_at(p, 19);
+    let run = number_at(p, 20, 8);
+    let random = Random(number_at(p, 36, 8), number_at(p, 44, 8));
+    let addresses = is_unicast(src) & (dst == BROADCAST);
+    let fixed = is_zero(p, 0, 2) & is_zero(p, 2, 17) & is_zero(p, 28, 8);
+    decide(
+        addresses,
+        fixed,
+        Message::MnbcSoundInd {
+            car: CarAddress(src),
+            count: count,
+            run: RunId(run),
+            random: random,
+        },
+    )
+}
+
+fn atten_char_ind(p: &[u8], dst: u64, src: u64) -> ReadAnswer
+    requires { ⌜ payloadSize attenCharInd ≤ length (now p) ⌝ }
+    ensures { λ r. ⌜ Reads r (payloadRules attenCharInd dst src (now (p .entry))) ⌝ }
+{
+    let run = number_at(p, 8, 8);
+    let sounds = octet_at(p, 50);
+    let addresses = is_unicast(src) & is_unicast(dst);
+    let fixed = is_zero(p, 0, 2)
+        & (number_at(p, 2, 6) == dst)
+        & is_zero(p, 16, 34)
+        & (number_at(p, 51, 1) == 0x3A);
+    decide(
+        addresses,
+        fixed,
+        Message::AttenCharInd {
+            station: StationAddress(src),
+            car: CarAddress(dst),
+            run: RunId(run),
+            sounds: sounds,
+        },
+    )
+}
+
+fn atten_char_rsp(p: &[u8], dst: u64, src: u64) -> ReadAnswer
+    requires { ⌜ payloadSize attenCharRsp ≤ length (now p) ⌝ }
+    ensures { λ r. ⌜ Reads r (payloadRules attenCharRsp dst src (now (p .entry))) ⌝ }
+{
+    let run = number_at(p, 8, 8);
+    let addresses = is_unicast(src) & is_unicast(dst);
+    let fixed = is_zero(p, 0, 2)
+        & (number_at(p, 2, 6) == src)
+        & is_zero(p, 16, 34)
+        & is_zero(p, 50, 1);
+    decide(
+        addresses,
+        fixed,
+        Message::AttenCharRsp {
+            car: CarAddress(src),
+            station: StationAddress(dst),
+            run: RunId(run),
+        },
+    )
+}
+
+fn atten_profile_ind(p: &[u8], dst: u64, src: u64) -> ReadAnswer
+    requires { ⌜ payloadSize attenProfileInd ≤ length (now p) ⌝ }
+    ensures { λ r. ⌜ Reads r (payloadRules attenProfileInd dst src (now (p .entry))) ⌝ }
+{
+    let car = number_at(p, 0, 6);
+    let addresses = is_unicast(src) & is_unicast(dst) & is_unicast(car);
+    let fixed = (number_at(p, 6, 1) == 0x3A) & is_zero(p, 7, 1);
+    decide(
+        addresses,
+        fixed,
+        Message::AttenProfileInd {
+            modem: ModemAddress(src),
+            station: StationAddress(dst),
+            car: CarAddress(car),
+        },
+    )
+}
+
+// Whether octets 0-65 of a match message are right but for the RunID: MVFLength, the car and the station, zeros.
+fn is_match(p: &[u8], mvflength: u64, car: u64, station: u64) -> bool
+    requires { ⌜ size (matchFields mvflength car station []) ≤ length (now p) ⌝ }
+    ensures { λ r. ⌜ r ≡ holds 0 (matchFields mvflength car station []) (now (p .entry)) ⌝ }
+{
+    is_zero(p, 0, 2)
+        & (number_at(p, 2, 2) == mvflength)
+        & is_zero(p, 4, 17)
+        & (number_at(p, 21, 6) == car)
+        & is_zero(p, 27, 17)
+        & (number_at(p, 44, 6) == station)
+        & is_zero(p, 58, 8)
+}
+
+fn slac_match_req(p: &[u8], dst: u64, src: u64) -> ReadAnswer
+    requires { ⌜ payloadSize slacMatchReq ≤ length (now p) ⌝ }
+    ensures { λ r. ⌜ Reads r (payloadRules slacMatchReq dst src (now (p .entry))) ⌝ }
+{
+    let run = number_at(p, 50, 8);
+    let addresses = is_unicast(src) & is_unicast(dst);
+    let fixed = is_match(p, 0x3E00, src, dst);
+    decide(
+        addresses,
+        fixed,
+        Message::SlacMatchReq {
+            car: CarAddress(src),
+            station: StationAddress(dst),
+            run: RunId(run),
+        },
+    )
+}
+
+fn slac_match_cnf(p: &[u8], dst: u64, src: u64) -> ReadAnswer
+    requires { ⌜ payloadSize slacMatchCnf ≤ length (now p) ⌝ }
+    ensures { λ r. ⌜ Reads r (payloadRules slacMatchCnf dst src (now (p .entry))) ⌝ }
+{
+    let run = number_at(p, 50, 8);
+    let nid = low_number_at(p, 66, 7);
+    let nmk = Nmk(number_at(p, 74, 8), number_at(p, 82, 8));
+    let addresses = is_unicast(src) & is_unicast(dst);
+    let fixed = is_match(p, 0x5600, dst, src) & (nid < NID_LIMIT) & is_zero(p, 73, 1);
+    decide(
+        addresses,
+        fixed,
+        Message::SlacMatchCnf {
+            station: StationAddress(src),
+            car: CarAddress(dst),
+            run: RunId(run),
+            nid: Nid(nid),
+            nmk: nmk,
+        },
+    )
+}
+
+// Reads the payload of a frame of this kind.
+pub(crate) fn body(frame: &[u8], kind: Kind) -> ReadAnswer
+    requires { ⌜ filledSize (kindOf kind) ≤ length (now frame) ⌝ }
+    ensures { λ r. ⌜ Reads r (frameRules (yes (kindOf kind)) (now (frame .entry))) ⌝ }
+{
+    let dst = number_at(frame, 0, 6);
+    let src = number_at(frame, 6, 6);
+    let p = &frame[HEAD..];
+    match kind {
+        Kind::SlacParmReq => slac_parm_req(p, dst, src),
+        Kind::SlacParmCnf => slac_parm_cnf(p, dst, src),
+        Kind::StartAttenCharInd => start_atten_char_ind(p, dst, src),
+        Kind::AttenCharInd => atten_char_ind(p, dst, src),
+        Kind::AttenCharRsp => atten_char_rsp(p, dst, src),
+        Kind::MnbcSoundInd => mnbc_sound_ind(p, dst, src),
+        Kind::SlacMatchReq => slac_match_req(p, dst, src),
+        Kind::SlacMatchCnf => slac_match_cnf(p, dst, src),
+        Kind::AttenProfileInd => atten_profile_ind(p, dst, src),
+    }
+}
