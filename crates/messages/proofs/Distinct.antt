@@ -1,10 +1,9 @@
 -- Proof that the readings of answers tell them apart: each reading can be read back.
-use Prim.Native.Nat.{ℕ}
+use Prim.Native.Nat.{ℕ, _-_}
 use mathlib.Core.Path.{_≡_, refl, sym, ap, _∙_}
-use mathlib.Core.Bool.{cond}
-use mathlib.Core.List.{List}
+use mathlib.Core.List.{List, [], _∷_}
 use native.Mathlib.Omega.{arith}
-use lib.Dec.{eqb}
+use lib.ListN.{getD}
 use Rattle.messages.specs.Table as table
 use Rattle.messages.specs.Reading.{yes}
 use Rattle.messages.specs.Answers.{numberOf, messageOf}
@@ -17,27 +16,18 @@ use Rattle.messages.specs.declared.ReadAnswer.the-variants as readAnswer
 use Rattle.messages.specs.declared.Written.the-variants as written
 use Rattle.messages.proofs.ReadLaws.{messageIn}
 
+-- the refusals in the order of their numbers, which begin at 1
+refusals : List Refusal
+refusals =
+    TooShort ∷ BadHead ∷ UnknownType ∷ TooLong ∷ BadAddress ∷ BadOctet ∷ NotForUs ∷ WrongState ∷ AdmissionClosed ∷ RecordsFull ∷ NoRecord ∷ WrongPhase
+    ∷ BadSoundCount ∷ TickGap ∷ OutputTooShort ∷ BadConfiguration ∷ OnlyForCars ∷ []
+
 -- the refusal that has a number
-abbrev refusalOf : ℕ → Refusal
-refusalOf n =
-    cond (eqb n 1) TooShort
-    (cond (eqb n 2) BadHead
-    (cond (eqb n 3) UnknownType
-    (cond (eqb n 4) TooLong
-    (cond (eqb n 5) BadAddress
-    (cond (eqb n 6) BadOctet
-    (cond (eqb n 7) NotForUs
-    (cond (eqb n 8) WrongState
-    (cond (eqb n 9) AdmissionClosed
-    (cond (eqb n 10) RecordsFull
-    (cond (eqb n 11) NoRecord
-    (cond (eqb n 12) WrongPhase
-    (cond (eqb n 13) BadSoundCount
-    (cond (eqb n 14) TickGap
-    (cond (eqb n 15) OutputTooShort
-    (cond (eqb n 16) BadConfiguration OnlyForCars)))))))))))))))
+refusalOf : ℕ → Refusal
+refusalOf n = getD refusals (n - 1) TooShort
 
 refusal-back : (x : Refusal) → refusalOf (numberOf x) ≡ x
+unfolding refusals refusalOf
 refusal-back TooShort = refl
 refusal-back BadHead = refl
 refusal-back UnknownType = refl

@@ -9,4 +9,3 @@ pub mod WriteLaws
 pub mod RoundTrips
 pub mod Distinct
 pub mod NamedCars
-pub mod Cases

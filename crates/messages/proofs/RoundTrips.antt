@@ -1,5 +1,5 @@
 -- Proof of the two round trips, once for every kind.
-use Prim.Native.Nat.{ℕ, _+_, _≤_}
+use Prim.Native.Nat.{ℕ, _+_, _^_, _≤_, _<_}
 use mathlib.Core.Path.{_≡_, sym, ap, ap₂, _∙_, subst}
 use mathlib.Core.Bool.{true}
 use mathlib.Core.List.{List, [], _++_, append-assoc}
@@ -9,13 +9,13 @@ use borrow.Author.Tests.{le-leb}
 use lib.Dec.{leb}
 use lib.ListN.{length, take, drop, length-drop}
 use lib.Seq.{drop-at, take-add}
-use Rattle.messages.specs.Octets.{value, Octets}
+use Rattle.messages.specs.Octets.{value, bytes, Octets}
 use Rattle.messages.specs.Layout.{Values, size, holds, read, encode}
 use Rattle.messages.specs.Table.{Kind, typeOf, payloadSize, head, filledSize, writtenSize, payload, Message, addressed}
 use Rattle.messages.specs.Reading.{Checked, yes, check, ofType, kinds, sized, kindRules, payloadRules, frameRules, readRules}
 use Rattle.messages.specs.Writing.{headOctets, payloadOctets, padding, frame, isAddressed, isLimited, writeRules}
 use Rattle.messages.specs.Claims.{ReadsWritten, WritesRead}
-use Rattle.messages.proofs.OctetLaws.{octets-drop}
+use Rattle.messages.proofs.OctetLaws.{octets-drop, value-bytes}
 use Rattle.messages.proofs.LayoutLaws.{Fits, to-fits, to-full, holds-encode, read-encode, encode-read, read-fits}
 use Rattle.messages.proofs.TableLaws.{size-payload, type-found, addressed-lt}
 use Rattle.messages.proofs.CheckLaws.{pass, passed, size-right}
@@ -142,3 +142,10 @@ module _ (s : List ℕ) (o : Octets s) (m : Message) (x : Accepted s m) where
 
 pub writes-read : WritesRead
 writes-read s m o e n = as-read s o m (accepted s m e) n
+
+-- ---- the destination of a frame
+
+-- octets 0 to 5 of a message's frame are its destination
+pub frame-destination : (m : Message) → m .dst < 256 ^ 6 → value (frame m) 0 6 ≡ m .dst
+unfolding frame
+frame-destination m h = ap (λ (l : List ℕ). value l 0 6) (append-assoc (bytes 6 (m .dst)) _ _) ∙ value-bytes 6 (m .dst) [] _ h

@@ -1,0 +1,137 @@
+-- What the three changes of the record list keep, every call keeps.
+use Prim.Native.Nat.{ℕ, zero, suc, _-_}
+use mathlib.Core.Path.{_≡_}
+use mathlib.Core.Bool.{Bool, true, false, _&&_}
+use mathlib.Core.List.{List, [], _∷_, map}
+use lib.Dec.{leb}
+use Rattle.messages.specs.declared.CarAddress.{CarAddress}
+use Rattle.messages.specs.declared.RunId.{RunId}
+use Rattle.messages.specs.Table.{isUnicast}
+use Rattle.messages.specs.Reading.{Checked, no, yes, readRules}
+use Rattle.rules.specs.declared.Configuration.{Configuration}
+use Rattle.rules.specs.declared.Record.{Record}
+use Rattle.rules.specs.declared.State.{State}
+use Rattle.rules.specs.declared.State.the-variants.{Unmatched, Matching, Joining, Matched}
+use Rattle.rules.specs.declared.Station.{Station}
+use Rattle.rules.specs.Calls.{Call, frame, tick, pilot, terminate, linkUp}
+use Rattle.rules.specs.Outcomes.{andThen}
+use Rattle.rules.specs.Stations.{Shared, Inner, Done, next}
+use Rattle.rules.specs.Records.{sameCar, sameRun, mine, freePlaces, noneHeld, freed}
+use Rattle.rules.specs.Received.{RecordMessage, Request, forRecord, matchReq, Received, received}
+use Rattle.rules.specs.Events.{plugged, ended, pilotDone, linkRule}
+use Rattle.rules.specs.Frames.{Change, changeRule, matchRule, put, changed, confirmed, stateRule, admitted, frameRule}
+use Rattle.rules.specs.Ticks.{tickElapsed, tickRecord, allReports, admissionDone, joiningDone, tickDone}
+use Rattle.rules.specs.Rules.{rule, step, after}
+use Rattle.rules.proofs.Logic.{OnYes, on-check}
+use Rattle.rules.proofs.ReceivedLaws.{ReadAs, read-as}
+
+-- what a frame's request must meet, where it is not refused before a record is looked at
+abbrev pub Meets : (Request → Type 0) → Configuration → Call → Type 0
+Meets F o (frame s room) = OnYes (λ (y : Received). F (y .request)) (admitted o room (received s))
+Meets F o (tick t room) = Unit {0}
+Meets F o (pilot p t) = Unit {0}
+Meets F o terminate = Unit {0}
+Meets F o linkUp = Unit {0}
+
+module _ (P : List Record → Type 0) (F : Request → Type 0)
+    (puts : (c : CarAddress) → isUnicast (c .0) ≡ true → (m : RecordMessage) → F (forRecord m) → (a : ℕ) (rs : List Record) → P rs
+    → OnYes (λ (x : Change). P (put c (x .place) (x .kept) rs)) (changeRule c m a (freePlaces rs) (mine c rs)))
+    (ticks : (e : ℕ) (rs : List Record) → P rs → P (map (tickRecord e) rs))
+    (frees : (rs : List Record) → P rs → P (map freed rs)) where
+  abbrev Keeps : Done → Type 0
+  Keeps d = P (d .inner .records)
+
+  of-change : (o : Configuration) (st : State) (rs : List Record) (c : CarAddress) (w : Checked Change) → OnYes (λ (x : Change). P (put c (x .place) (x .kept) rs)) w
+      → OnYes Keeps (andThen w (λ (x : Change). yes (changed o st rs c x)))
+  of-change o st rs c (no n) h = tt
+  of-change o st rs c (yes x) h = h
+
+  of-match : (o : Configuration) (st : State) (rs : List Record) (c : CarAddress) (run : RunId) (w : Checked (Unit {0})) → P rs
+      → OnYes Keeps (andThen w (λ (x : Unit {0}). yes (confirmed o st (map freed rs) c run)))
+  of-match o st rs c run (no n) h = tt
+  of-match o st rs c run (yes x) h = frees rs h
+
+  of-state : (o : Configuration) (st : State) (rs : List Record) (c : CarAddress) (m : Request) → isUnicast (c .0) ≡ true → F m → P rs → OnYes Keeps (stateRule o st rs c m)
+  unfolding stateRule
+  of-state o Unmatched rs c m u f h = tt
+  of-state o (Matching a) rs c (forRecord m) u f h = of-change o _ rs c (changeRule c m a (freePlaces rs) (mine c rs)) (puts c u m f a rs h)
+  of-state o (Matching a) rs c (matchReq run) u f h = of-match o _ rs c run (matchRule run (mine c rs)) h
+  of-state o (Joining l d k) rs c (forRecord m) u f h = tt
+  of-state o (Joining l d k) rs c (matchReq run) u f h = on-check Keeps (sameCar c d && sameRun run k) 11 _ (λ e. h)
+  of-state o Matched rs c m u f h = tt
+
+  of-frame : (o : Configuration) (i : Inner) (s : List ℕ) (w : Checked Received) → OnYes (ReadAs (readRules s)) w → OnYes (λ (y : Received). F (y .request)) w → P (i .records)
+      → OnYes Keeps (frameRule o i w)
+  of-frame o i s (no n) t f h = tt
+  of-frame o i s (yes y) t f h = of-state o (i .state) (i .records) (y .car) (y .request) (t .unicast) f h
+
+  of-admission : (a : ℕ) (b : Bool) (rs : List Record) (fs : List (List ℕ)) → P rs → Keeps (admissionDone a b rs fs)
+  unfolding admissionDone
+  of-admission zero true rs fs h = h
+  of-admission zero false rs fs h = h
+  of-admission (suc a) b rs fs h = h
+
+  of-joining : (b : Bool) (l : ℕ) (c : CarAddress) (run : RunId) (rs : List Record) → P rs → Keeps (joiningDone b l c run rs)
+  unfolding joiningDone
+  of-joining true l c run rs h = h
+  of-joining false l c run rs h = h
+
+  of-tick : (o : Configuration) (e : ℕ) (st : State) (rs : List Record) → P rs → Keeps (tickDone o e st rs)
+  unfolding tickDone
+  of-tick o e Unmatched rs h = h
+  of-tick o e (Matching a) rs h = of-admission (a - e) (noneHeld (map (tickRecord e) rs)) (map (tickRecord e) rs) (allReports o e rs) (ticks e rs h)
+  of-tick o e (Joining l c run) rs h = of-joining (leb l e) (l - e) c run rs h
+  of-tick o e Matched rs h = h
+
+  of-elapsed : (o : Configuration) (i : Inner) (w : Checked ℕ) → P (i .records) → OnYes Keeps (andThen w (λ (e : ℕ). yes (tickDone o e (i .state) (i .records))))
+  of-elapsed o i (no n) h = tt
+  of-elapsed o i (yes e) h = of-tick o e (i .state) (i .records) h
+
+  of-pilot : (b p : Bool) (i : Inner) → P (i .records) → Keeps (pilotDone b p i)
+  unfolding pilotDone
+  of-pilot false true i h = frees (i .records) h
+  of-pilot true false i h = frees (i .records) h
+  of-pilot false false i h = frees (i .records) h
+  of-pilot true true i h = h
+
+  of-link : (st : State) (rs : List Record) → P rs → OnYes Keeps (linkRule st rs)
+  unfolding linkRule
+  of-link Unmatched rs h = tt
+  of-link (Matching a) rs h = tt
+  of-link (Joining l c run) rs h = h
+  of-link Matched rs h = tt
+
+  of-rule : (o : Shared) (i : Inner) (x : Call) → Meets F (o .config) x → P (i .records) → OnYes Keeps (rule o i x)
+  unfolding rule
+  of-rule o i (frame s room) f h = of-frame (o .config) i s (admitted (o .config) room (received s)) (read-as (o .config) room s) f h
+  of-rule o i (tick t room) f h = of-elapsed (o .config) i (tickElapsed o t room) h
+  of-rule o i (pilot p t) f h = on-check Keeps (o .config .good) 16 (yes (pilotDone (plugged (o .pilot)) (plugged p) i)) (λ g. of-pilot (plugged (o .pilot)) (plugged p) i h)
+  of-rule o i terminate f h = on-check Keeps (o .config .good) 16 (yes (ended i)) (λ g. frees (i .records) h)
+  of-rule o i linkUp f h = on-check Keeps (o .config .good) 16 (linkRule (i .state) (i .records)) (λ g. of-link (i .state) (i .records) h)
+
+  of-next : (i : Inner) (w : Checked Done) → P (i .records) → OnYes Keeps w → P (next i w .records)
+  of-next i (no n) h k = h
+  of-next i (yes d) h k = k
+
+  pub always : (o : Shared) (i : Inner) (x : Call) → Meets F (o .config) x → P (i .records) → P (next i (rule o i x) .records)
+  always o i x f h = of-next i (rule o i x) h (of-rule o i x f h)
+
+-- where every request will do
+abbrev pub AnyRequest : Request → Type 0
+AnyRequest m = Unit {0}
+
+any-yes : (w : Checked Received) → OnYes (λ (y : Received). AnyRequest (y .request)) w
+any-yes (no n) = tt
+any-yes (yes y) = tt
+
+pub meets-any : (o : Configuration) (x : Call) → Meets AnyRequest o x
+meets-any o (frame s room) = any-yes (admitted o room (received s))
+meets-any o (tick t room) = tt
+meets-any o (pilot p t) = tt
+meets-any o terminate = tt
+meets-any o linkUp = tt
+
+-- what every single call keeps, every list of calls keeps
+pub after-all : (P : Station → Type 0) → ((s : Station) (x : Call) → P s → P (step s x)) → (s : Station) (xs : List Call) → P s → P (after s xs)
+after-all P h s [] p = p
+after-all P h s (x ∷ xs) p = after-all P h (step s x) xs (h s x p)

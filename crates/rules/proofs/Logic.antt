@@ -1,0 +1,41 @@
+-- Small laws of Bools and of checks.
+use Prim.Native.Nat.{ℕ}
+use mathlib.Core.Path.{_≡_, refl}
+use mathlib.Core.Bool.{Bool, true, false, _||_}
+use mathlib.Core.List.{List, [], _∷_}
+use native.Mathlib.Omega.{arith}
+use Rattle.messages.specs.Reading.{Checked, no, yes, check}
+
+pub split : {P : Type 0} (b : Bool) → (b ≡ true → P) → (b ≡ false → P) → P
+split true t f = t refl
+split false t f = f refl
+
+pub clash : {P : Type 0} (b : Bool) → b ≡ true → b ≡ false → P
+clash b p q = absurd (let z : _≡_ {A = ℕ} 0 1 = cc in omega arith)
+
+pub or-left : (a b : Bool) → a || b ≡ false → a ≡ false
+or-left true b h = h
+or-left false b h = refl
+
+pub or-right : (a b : Bool) → a || b ≡ false → b ≡ false
+or-right true b h = clash true refl h
+or-right false b h = h
+
+module _ {A : Type 0} where
+  pub no-cons : (x : A) (xs : List A) → x ∷ xs ≡ [] → ⊥
+  no-cons x xs p = let z : _≡_ {A = ℕ} 0 1 = cc in omega arith
+
+  -- what holds of an answer, where there is one
+  abbrev pub OnYes : (A → Type 0) → Checked A → Type 0
+  OnYes P (no n) = Unit {0}
+  OnYes P (yes x) = P x
+
+  pub on-check : (P : A → Type 0) (b : Bool) (n : ℕ) (w : Checked A) → (b ≡ true → OnYes P w) → OnYes P (check b n w)
+  on-check P true n w h = h refl
+  on-check P false n w h = tt
+
+module _ {A B : Type 0} (P : Checked A → Checked B → Type 0) where
+  -- the same check on both sides
+  pub check-both : (b : Bool) (n : ℕ) (w : Checked A) (v : Checked B) → P (no n) (no n) → (b ≡ true → P w v) → P (check b n w) (check b n v)
+  check-both true n w v p h = h refl
+  check-both false n w v p h = p

@@ -1,0 +1,103 @@
+-- Demand 3, part one: ticks, pilot, terminate and link up, which both stations get.
+use Prim.Native.Nat.{ℕ, zero, suc, _-_, _<_}
+use mathlib.Core.Path.{_≡_, refl, sym, _∙_, ap}
+use mathlib.Core.Bool.{Bool, true, false, not, _&&_}
+use mathlib.Core.List.{List, [], map}
+use native.Mathlib.Omega.{arith}
+use lib.ListN.{length}
+use Rattle.messages.specs.declared.CarAddress.{CarAddress}
+use Rattle.messages.specs.Reading.{Checked, no, yes, check}
+use Rattle.rules.specs.declared.Configuration.{Configuration}
+use Rattle.rules.specs.declared.Record.{Record}
+use Rattle.rules.specs.declared.State.{State}
+use Rattle.rules.specs.declared.State.the-variants.{Unmatched}
+use Rattle.rules.specs.declared.Indication.{Indication}
+use Rattle.rules.specs.declared.Indication.the-variants.{Nothing}
+use Rattle.rules.specs.Lists.{only, All, joins}
+use Rattle.rules.specs.Outcomes.{andThen}
+use Rattle.rules.specs.Stations.{Inner, done, next, outcomeOf}
+use Rattle.rules.specs.Records.{mine, noneHeld}
+use Rattle.rules.specs.Events.{ended, pilotDone, linkRule}
+use Rattle.rules.specs.Ticks.{tickRecord, allReports, admissionDone, tickDone}
+use Rattle.rules.specs.Demand3.{accepted, isTo}
+use Rattle.rules.proofs.Logic.{clash, check-both}
+use Rattle.rules.proofs.RecordLaws.{none-mine, none-tick}
+use Rattle.rules.proofs.ReplyLaws.{Unicast, sent-tick}
+use Rattle.rules.proofs.Near.{Alone, Ahead, both, late, out, Near, BothGet, stays, alone-none, alone-tick, alone-freed}
+
+-- ---- ticks
+
+module _ (c : CarAddress) (rs rs′ : List Record) (fs fs′ : List (List ℕ)) (h : Alone c rs rs′) (s : only (isTo c) fs ≡ only (isTo c) fs′) where
+  -- admission runs down in both
+  both-admission : (i j : Inner) (a : ℕ) (b b′ : Bool) → noneHeld rs ≡ b → noneHeld rs′ ≡ b′ → BothGet c i j (yes (admissionDone a b rs fs)) (yes (admissionDone a b′ rs′ fs′))
+  unfolding admissionDone
+  both-admission i j zero true true p q = record { near = record { alone = h; states = out (none-mine c rs′ q) }; sent = s }
+  both-admission i j zero false false p q = record { near = record { alone = h; states = both }; sent = s }
+  both-admission i j zero false true p q = record { near = record { alone = h; states = late refl (none-mine c rs′ q) }; sent = s }
+  both-admission i j zero true false p q = clash (noneHeld rs′) (alone-none c rs rs′ h (none-mine c rs p)) q
+  both-admission i j (suc a) b b′ p q = record { near = record { alone = h; states = both }; sent = s }
+
+  -- the second is Unmatched already
+  late-admission : (i j : Inner) (a : ℕ) (b : Bool) (x : Indication) → a ≡ 0 → mine c rs′ ≡ [] → BothGet c i j (yes (admissionDone a b rs fs)) (yes (done Unmatched rs′ fs′ x))
+  unfolding admissionDone
+  late-admission i j zero true x z m = record { near = record { alone = h; states = out m }; sent = s }
+  late-admission i j zero false x z m = record { near = record { alone = h; states = late refl m }; sent = s }
+  late-admission i j (suc a) b x z m = absurd (omega arith)
+
+module _ (o : Configuration) (c : CarAddress) (e : ℕ) (i j : Inner) (rs rs′ : List Record) (f : All Unicast rs) (f′ : All Unicast rs′) (h : Alone c rs rs′) where
+  tick-near : (st st′ : State) → Ahead (mine c rs′) st st′ → BothGet c i j (yes (tickDone o e st rs)) (yes (tickDone o e st′ rs′))
+  unfolding tickDone joins only
+  tick-near st st′ (both {a}) =
+      both-admission c (map (tickRecord e) rs) (map (tickRecord e) rs′) (allReports o e rs) (allReports o e rs′)
+      (alone-tick c rs rs′ h e)
+      (sent-tick o c e rs f ∙ ap (allReports o e) (h .own) ∙ sym (sent-tick o c e rs′ f′))
+      i j (a - e) (noneHeld (map (tickRecord e) rs)) (noneHeld (map (tickRecord e) rs′)) refl refl
+  tick-near st st′ (late {a} z m) =
+      late-admission c (map (tickRecord e) rs) rs′ (allReports o e rs) []
+      (record { own = none-tick c e rs (h .own ∙ m) ∙ sym m; others = h .others; sized = h .sized })
+      (sent-tick o c e rs f ∙ ap (allReports o e) (h .own ∙ m))
+      i j (a - e) (noneHeld (map (tickRecord e) rs)) Nothing (omega arith) m
+  tick-near st st′ (out m) = record { near = record { alone = h; states = out m }; sent = refl }
+
+pub elapsed-near : (o : Configuration) (c : CarAddress) (i j : Inner) (w : Checked ℕ) → All Unicast (i .records) → All Unicast (j .records) → Near c i j
+    → BothGet c i j (andThen w (λ (e : ℕ). yes (tickDone o e (i .state) (i .records)))) (andThen w (λ (e : ℕ). yes (tickDone o e (j .state) (j .records))))
+elapsed-near o c i j (no n) f f′ h = stays c i j n n h
+elapsed-near o c i j (yes e) f f′ h = tick-near o c e i j (i .records) (j .records) f f′ (h .alone) (i .state) (j .state) (h .states)
+
+-- ---- pilot, terminate and link up
+
+module _ (c : CarAddress) (i j : Inner) (h : Near c i j) where
+  pub pilot-near : (g was is : Bool) → not is && accepted (outcomeOf (check g 16 (yes (pilotDone was is i)))) ≡ false
+      → BothGet c i j (check g 16 (yes (pilotDone was is i))) (check g 16 (yes (pilotDone was is j)))
+  unfolding pilotDone accepted
+  pilot-near false was is e = stays c i j 16 16 h
+  pilot-near true true true e = record { near = h; sent = refl }
+  pilot-near true false true e = record { near = record { alone = alone-freed c (i .records) (j .records) (h .alone .sized); states = both }; sent = refl }
+  pilot-near true true false e = clash true refl e
+  pilot-near true false false e = clash true refl e
+
+  pub terminate-near : (g : Bool) → accepted (outcomeOf (check g 16 (yes (ended i)))) ≡ false → BothGet c i j (check g 16 (yes (ended i))) (check g 16 (yes (ended j)))
+  unfolding accepted
+  terminate-near false e = stays c i j 16 16 h
+  terminate-near true e = clash true refl e
+
+link-states : (c : CarAddress) (i j : Inner) (own : List Record) (st st′ : State) → Near c i j → Ahead own st st′ → BothGet c i j (linkRule st (i .records)) (linkRule st′ (j .records))
+unfolding linkRule
+link-states c i j own st st′ h both = stays c i j 8 8 h
+link-states c i j own st st′ h (late z m) = stays c i j 8 8 h
+link-states c i j own st st′ h (out m) = stays c i j 8 8 h
+
+pub link-near : (c : CarAddress) (i j : Inner) → Near c i j → (g : Bool) → BothGet c i j (check g 16 (linkRule (i .state) (i .records))) (check g 16 (linkRule (j .state) (j .records)))
+link-near c i j h g =
+    check-both (BothGet c i j) g 16 (linkRule (i .state) (i .records)) (linkRule (j .state) (j .records)) (stays c i j 16 16 h)
+    (λ e. link-states c i j (mine c (j .records)) (i .state) (j .state) h (h .states))
+
+-- a plug-in brings any two stations near
+pub plug-near : (c : CarAddress) (i j : Inner) (g was is : Bool) → 0 < length (j .records)
+    → accepted (outcomeOf (check g 16 (yes (pilotDone was is i)))) && not was && is ≡ true
+    → Near c (next i (check g 16 (yes (pilotDone was is i)))) (next j (check g 16 (yes (pilotDone was is j))))
+unfolding pilotDone accepted
+plug-near c i j true false true z e = record { alone = alone-freed c (i .records) (j .records) z; states = both }
+plug-near c i j true false false z e = clash true refl (sym e)
+plug-near c i j true true is z e = clash true refl (sym e)
+plug-near c i j false was is z e = clash true refl (sym e)

@@ -1,0 +1,243 @@
+-- Demand 3, part two: two frames of a row that name different cars change places.
+use Prim.Native.Nat.{ℕ, _+_, _≤_}
+use mathlib.Core.Path.{_≡_, refl, sym, _∙_, ap, subst}
+use mathlib.Core.Bool.{Bool, true, false, not, _&&_}
+use mathlib.Core.List.{List, map}
+use native.Mathlib.Omega.{arith}
+use lib.ListN.{length}
+use borrow.Author.Tests.{not-true}
+use Rattle.messages.specs.declared.CarAddress.{CarAddress}
+use Rattle.messages.specs.declared.RunId.{RunId}
+use Rattle.messages.specs.Table.{slacMatchReq}
+use Rattle.messages.specs.Reading.{Checked, no, yes, check, readRules}
+use Rattle.messages.proofs.LayoutLaws.{and-left, and-right}
+use Rattle.rules.specs.declared.Configuration.{Configuration}
+use Rattle.rules.specs.declared.Record.{Record}
+use Rattle.rules.specs.declared.State.{State}
+use Rattle.rules.specs.declared.State.the-variants.{Unmatched, Matching, Joining, Matched}
+use Rattle.rules.specs.declared.Station.{Station}
+use Rattle.rules.specs.Constants.{joiningTime}
+use Rattle.rules.specs.Calls.{Call, frame, tick, pilot, terminate, linkUp}
+use Rattle.rules.specs.Outcomes.{Outcome, andThen}
+use Rattle.rules.specs.Stations.{Inner, inner, Done, next, outcomeOf}
+use Rattle.rules.specs.Records.{sameCar, sameRun, mine, freePlaces, freed}
+use Rattle.rules.specs.Received.{Request, forRecord, matchReq, Received, received}
+use Rattle.rules.specs.Frames.{Change, changeRule, matchRule, put, changed, confirmed, stateRule, admitted, frameRule}
+use Rattle.rules.specs.Rules.{rule, sharedStep, step, outcome}
+use Rattle.rules.specs.Demand3.{named, isCar, accepted, isTen, isKind, isFrame, moves}
+use Rattle.rules.proofs.Logic.{split, clash, OnYes}
+use Rattle.rules.proofs.RecordLaws.{same-refl, same-eq, same-swap, Ready, takes, ready-takes, same-put, mine-put-other, length-put, free-put}
+use Rattle.rules.proofs.RuleLaws.{isAsk, refusedTen, change-ready, change-same}
+use Rattle.rules.proofs.ReceivedLaws.{isMatch, ReadAs, read-as}
+use Rattle.rules.proofs.NearFrames.{ten-change}
+use Rattle.rules.proofs.Places.{Places, Moved, Like}
+
+-- ---- what a change does to the records
+
+-- the records after it: a refusal changes nothing
+abbrev then : CarAddress → Checked Change → List Record → List Record
+then c (no n) rs = rs
+then c (yes x) rs = put c (x .place) (x .kept) rs
+
+-- how many free places it takes
+abbrev needed : Checked Change → ℕ
+needed (no n) = 0
+needed (yes x) = takes (x .place)
+
+-- its place is ready
+abbrev IsReady : CarAddress → List Record → Checked Change → Type 0
+IsReady c rs w = OnYes (λ (x : Change). Ready (x .place) (freePlaces rs) (mine c rs)) w
+
+needed-on : (w : Checked Change) (k : ℕ) → needed w ≤ k → OnYes (λ (x : Change). takes (x .place) ≤ k) w
+needed-on (no n) k h = tt
+needed-on (yes x) k h = h
+
+ready-needed : (c : CarAddress) (w : Checked Change) (rs : List Record) → IsReady c rs w → needed w ≤ freePlaces rs
+ready-needed c (no n) rs r = omega arith
+ready-needed c (yes x) rs r = ready-takes (x .place) (freePlaces rs) (mine c rs) r
+
+then-free : (c : CarAddress) (w : Checked Change) (rs : List Record) → needed w ≤ freePlaces rs → freePlaces (then c w rs) + needed w ≡ freePlaces rs
+then-free c (no n) rs h = omega arith
+then-free c (yes x) rs h = free-put c (x .kept) (x .place) rs h
+
+then-other : (c d : CarAddress) (w : Checked Change) (rs : List Record) → sameCar d c ≡ false → mine d (then c w rs) ≡ mine d rs
+then-other c d (no n) rs h = refl
+then-other c d (yes x) rs h = mine-put-other c (x .kept) (x .place) d rs h
+
+then-own : (c : CarAddress) (w : Checked Change) (rs qs : List Record) → mine c rs ≡ mine c qs → IsReady c rs w → needed w ≤ freePlaces qs → mine c (then c w rs) ≡ mine c (then c w qs)
+then-own c (no n) rs qs e r h = e
+then-own c (yes x) rs qs e r h = same-put c (x .kept) (x .place) rs qs e r h
+
+then-length : (c : CarAddress) (w : Checked Change) (rs : List Record) → length (then c w rs) ≡ length rs
+then-length c (no n) rs = refl
+then-length c (yes x) rs = length-put c (x .kept) (x .place) rs
+
+-- two changes of different cars, in either order
+then-both : (c d : CarAddress) (w v : Checked Change) (rs : List Record) → sameCar c d ≡ false → IsReady c rs w → IsReady d (then c w rs) v
+    → Places (then d v (then c w rs)) (then c w (then d v rs))
+then-both c d w v rs f r r′ =
+    let g : sameCar d c ≡ false = same-swap c d f in
+    let a : needed w ≤ freePlaces rs = ready-needed c w rs r in
+    let b : needed v ≤ freePlaces (then c w rs) = ready-needed d v (then c w rs) r′ in
+    let p : freePlaces (then c w rs) + needed w ≡ freePlaces rs = then-free c w rs a in
+    let q : freePlaces (then d v rs) + needed v ≡ freePlaces rs = then-free d v rs (omega arith) in
+    record {
+      own = λ x. split (sameCar x c)
+          (λ e. rw (same-eq x c e) (then-other d c v (then c w rs) f ∙ then-own c w rs (then d v rs) (sym (then-other d c v rs f)) r (omega arith)))
+          (λ e. split (sameCar x d)
+          (λ k. rw (same-eq x d k) (then-own d v (then c w rs) rs (then-other c d w rs g) r′ (omega arith) ∙ sym (then-other c d w (then d v rs) g)))
+          (λ k. then-other d x v (then c w rs) k ∙ then-other c x w rs e ∙ sym (then-other d x v rs k) ∙ sym (then-other c x w (then d v rs) e)));
+      sizes = then-length d v (then c w rs) ∙ then-length c w rs ∙ sym (then-length d v rs) ∙ sym (then-length c w (then d v rs));
+    }
+
+-- ---- what a frame of a row does: one change, whatever the other cars' records
+
+abbrev doing : Configuration → State → CarAddress → Checked Change → List Record → Checked Done
+doing o st c w rs = andThen w (λ (x : Change). yes (changed o st rs c x))
+
+record Effect (o : Configuration) (st : State) (c : CarAddress) (m : Request) (rs : List Record) : Type 0 where
+  change : Checked Change
+  ready : IsReady c rs change
+  same : (qs : List Record) → mine c qs ≡ mine c rs → needed change ≤ freePlaces qs → stateRule o st qs c m ≡ doing o st c change qs
+
+refuses : (o : Configuration) (st : State) (c : CarAddress) (m : Request) (rs : List Record) (n : ℕ) → ((qs : List Record) → mine c qs ≡ mine c rs → stateRule o st qs c m ≡ no n) → Effect o st c m rs
+refuses o st c m rs n h = record { change = no n; ready = tt; same = λ qs e k. h qs e }
+
+match-effect : (o : Configuration) (a : ℕ) (c : CarAddress) (run : RunId) (rs : List Record) (w : Checked (Unit {0})) → matchRule run (mine c rs) ≡ w
+    → accepted (outcomeOf (andThen w (λ (x : Unit {0}). yes (confirmed o (Joining joiningTime c run) (map freed rs) c run)))) ≡ false → Effect o (Matching a) c (matchReq run) rs
+unfolding stateRule accepted
+match-effect o a c run rs (no n) e t = refuses o (Matching a) c (matchReq run) rs n (λ qs k. rw (k, e))
+match-effect o a c run rs (yes x) e t = clash true refl t
+
+again-effect : (o : Configuration) (l : ℕ) (d : CarAddress) (k : RunId) (c : CarAddress) (run : RunId) (rs : List Record) (b : Bool) → sameCar c d && sameRun run k ≡ b
+    → accepted (outcomeOf (check b 11 (yes (confirmed o (Joining l d k) rs c run)))) ≡ false → Effect o (Joining l d k) c (matchReq run) rs
+unfolding stateRule accepted
+again-effect o l d k c run rs false e t = refuses o (Joining l d k) c (matchReq run) rs 11 (λ qs q. rw e)
+again-effect o l d k c run rs true e t = clash true refl t
+
+effect : (o : Configuration) (st : State) (c : CarAddress) (m : Request) (rs : List Record) → isMatch m && accepted (outcomeOf (stateRule o st rs c m)) ≡ false → isTen (outcomeOf (stateRule o st rs c m)) ≡ false
+    → Effect o st c m rs
+unfolding stateRule
+effect o Unmatched c m rs t u = refuses o Unmatched c m rs 8 (λ qs e. refl)
+effect o (Matching a) c (forRecord m) rs t u =
+    let w : Checked Change = changeRule c m a (freePlaces rs) (mine c rs) in
+    let f : isAsk m && refusedTen w ≡ false = rw (sym (ten-change o (Matching a) rs c w) ∙ u) (and-false (isAsk m)) in
+    record {
+      change = w;
+      ready = change-ready c m a (freePlaces rs) (mine c rs);
+      same = λ qs e k. rw (e, ← change-same c m a (freePlaces rs) (freePlaces qs) (mine c rs) f (needed-on w (freePlaces qs) k));
+    }
+  where
+    and-false : (b : Bool) → b && false ≡ false
+    and-false true = refl
+    and-false false = refl
+effect o (Matching a) c (matchReq run) rs t u = match-effect o a c run rs (matchRule run (mine c rs)) refl t
+effect o (Joining l d k) c (forRecord m) rs t u = refuses o (Joining l d k) c (forRecord m) rs 8 (λ qs e. refl)
+effect o (Joining l d k) c (matchReq run) rs t u = again-effect o l d k c run rs (sameCar c d && sameRun run k) refl t
+effect o Matched c m rs t u = refuses o Matched c m rs 8 (λ qs e. refl)
+
+-- ---- two frames
+
+-- x and then y, and y and then x
+record Crossed (i : Inner) (a₁ a₂ b₁ b₂ : Checked Done) : Type 0 where
+  first : outcomeOf a₁ ≡ outcomeOf b₂
+  second : outcomeOf a₂ ≡ outcomeOf b₁
+  moved : Moved (next (next i a₁) a₂) (next (next i b₁) b₂)
+
+abbrev at : Configuration → CarAddress → Request → Inner → Checked Done
+at o c m i = stateRule o (i .state) (i .records) c m
+
+next-doing : (o : Configuration) (st : State) (c : CarAddress) (w : Checked Change) (rs : List Record) → next (record { state = st; records = rs }) (doing o st c w rs) ≡ record { state = st; records = then c w rs }
+next-doing o st c (no n) rs = refl
+next-doing o st c (yes x) rs = refl
+
+outcome-doing : (o : Configuration) (st : State) (c : CarAddress) (w : Checked Change) (rs qs : List Record) → outcomeOf (doing o st c w rs) ≡ outcomeOf (doing o st c w qs)
+outcome-doing o st c (no n) rs qs = refl
+outcome-doing o st c (yes x) rs qs = refl
+
+abbrev calm : Request → Outcome → Type 0
+calm m u = (isMatch m && accepted u ≡ false) × (isTen u ≡ false)
+
+swap-state : (o : Configuration) (st : State) (rs : List Record) (c d : CarAddress) (m l : Request) → sameCar c d ≡ false
+    → calm m (outcomeOf (stateRule o st rs c m)) → calm l (outcomeOf (at o d l (next (record { state = st; records = rs }) (stateRule o st rs c m))))
+    → Crossed (record { state = st; records = rs }) (stateRule o st rs c m) (at o d l (next (record { state = st; records = rs }) (stateRule o st rs c m)))
+    (stateRule o st rs d l) (at o c m (next (record { state = st; records = rs }) (stateRule o st rs d l)))
+swap-state o st rs c d m l f h₁ h₂ =
+    let i : Inner = record { state = st; records = rs } in
+    let E : Effect o st c m rs = effect o st c m rs (h₁ .0) (h₁ .1) in
+    let w : Checked Change = E .change in
+    let a : needed w ≤ freePlaces rs = ready-needed c w rs (E .ready) in
+    let e₁ : stateRule o st rs c m ≡ doing o st c w rs = E .same rs refl a in
+    let n₁ : next i (stateRule o st rs c m) ≡ record { state = st; records = then c w rs } = ap (next i) e₁ ∙ next-doing o st c w rs in
+    let h₃ : calm l (outcomeOf (stateRule o st (then c w rs) d l)) = subst (λ (q : Inner). calm l (outcomeOf (at o d l q))) n₁ h₂ in
+    let D : Effect o st d l (then c w rs) = effect o st d l (then c w rs) (h₃ .0) (h₃ .1) in
+    let v : Checked Change = D .change in
+    let b : needed v ≤ freePlaces (then c w rs) = ready-needed d v (then c w rs) (D .ready) in
+    let p : freePlaces (then c w rs) + needed w ≡ freePlaces rs = then-free c w rs a in
+    let od : mine d rs ≡ mine d (then c w rs) = sym (then-other c d w rs (same-swap c d f)) in
+    let e₂ : stateRule o st (then c w rs) d l ≡ doing o st d v (then c w rs) = D .same (then c w rs) refl b in
+    let e₃ : stateRule o st rs d l ≡ doing o st d v rs = D .same rs od (omega arith) in
+    let n₃ : next i (stateRule o st rs d l) ≡ record { state = st; records = then d v rs } = ap (next i) e₃ ∙ next-doing o st d v rs in
+    let q : freePlaces (then d v rs) + needed v ≡ freePlaces rs = then-free d v rs (omega arith) in
+    let e₄ : stateRule o st (then d v rs) c m ≡ doing o st c w (then d v rs) = E .same (then d v rs) (then-other d c v rs f) (omega arith) in
+    record {
+      first = ap outcomeOf e₁ ∙ outcome-doing o st c w rs (then d v rs) ∙ sym (ap (λ q. outcomeOf (at o c m q)) n₃ ∙ ap outcomeOf e₄);
+      second = ap (λ q. outcomeOf (at o d l q)) n₁ ∙ ap outcomeOf e₂ ∙ outcome-doing o st d v (then c w rs) rs ∙ sym (ap outcomeOf e₃);
+      moved =
+          rw (n₁, e₂, next-doing o st d v (then c w rs), n₃, e₄, next-doing o st c w (then d v rs))
+          (record { places = then-both c d w v rs f (E .ready) (D .ready); states = refl });
+    }
+
+-- two calls that do not name the same car
+abbrev pub Apart : Call → Call → Type 0
+Apart x y = (c : CarAddress) → isCar c (named x) ≡ true → isCar c (named y) ≡ false
+
+swap-frame : (o : Configuration) (i : Inner) (w v : Checked Received) → OnYes (λ (y : Received). OnYes (λ (z : Received). sameCar (y .car) (z .car) ≡ false) v) w
+    → OnYes (λ (y : Received). calm (y .request) (outcomeOf (frameRule o i w))) w → OnYes (λ (z : Received). calm (z .request) (outcomeOf (frameRule o (next i (frameRule o i w)) v))) v
+    → Crossed i (frameRule o i w) (frameRule o (next i (frameRule o i w)) v) (frameRule o i v) (frameRule o (next i (frameRule o i v)) w)
+swap-frame o i (no n) v f h g = record { first = refl; second = refl; moved = record { places = record { own = λ c. refl; sizes = refl }; states = refl } }
+swap-frame o i (yes y) (no n) f h g = record { first = refl; second = refl; moved = record { places = record { own = λ c. refl; sizes = refl }; states = refl } }
+swap-frame o i (yes y) (yes z) f h g = swap-state o (i .state) (i .records) (y .car) (z .car) (y .request) (z .request) f h g
+
+-- the words of the demand, said of what was received
+apart-received : (s s′ : List ℕ) (room room′ : ℕ) → Apart (frame s room) (frame s′ room′) → (w v : Checked Received) → OnYes (ReadAs (readRules s)) w → OnYes (ReadAs (readRules s′)) v
+    → OnYes (λ (y : Received). OnYes (λ (z : Received). sameCar (y .car) (z .car) ≡ false) v) w
+unfolding named isCar
+apart-received s s′ room room′ f (no n) v t t′ = tt
+apart-received s s′ room room′ f (yes y) (no n) t t′ = tt
+apart-received s s′ room room′ f (yes y) (yes z) t t′ =
+    let g : isCar (y .car) (named (frame s′ room′)) ≡ false = f (y .car) (rw (t .car) (same-refl (y .car))) in
+    rw (t′ .car) at g
+
+calm-received : (s : List ℕ) (room : ℕ) (u : Outcome) (w : Checked Received) → OnYes (ReadAs (readRules s)) w → moves (record { call = frame s room; gave = u }) ≡ true → OnYes (λ (y : Received). calm (y .request) u) w
+unfolding moves isFrame isKind
+calm-received s room u (no n) t h = tt
+calm-received s room u (yes y) t h =
+    let a : not (isKind slacMatchReq (frame s room) && accepted u) ≡ true = and-left _ _ h in
+    let b : isKind slacMatchReq (frame s room) && accepted u ≡ false = not-true _ a in
+    (rw (t .matching) at b, not-true _ (and-right (not (isKind slacMatchReq (frame s room) && accepted u)) _ h))
+
+-- ---- two calls of a row
+
+pub record Swapped (s : Station) (x y : Call) : Type 0 where
+  pub first : outcome s x ≡ outcome (step s y) x
+  pub second : outcome (step s x) y ≡ outcome s y
+  pub like : Like (step (step s x) y) (step (step s y) x)
+
+pub swap : (s : Station) (x y : Call) → Apart x y → moves (record { call = x; gave = outcome s x }) ≡ true → moves (record { call = y; gave = outcome (step s x) y }) ≡ true → Swapped s x y
+unfolding outcome step sharedStep rule moves isFrame
+swap s (frame x n) (frame y k) f h g =
+    let o : Configuration = s .config in
+    let w : Checked Received = admitted o n (received x) in
+    let v : Checked Received = admitted o k (received y) in
+    let W : Crossed (inner s) (frameRule o (inner s) w) (frameRule o (next (inner s) (frameRule o (inner s) w)) v) (frameRule o (inner s) v) (frameRule o (next (inner s) (frameRule o (inner s) v)) w) =
+    swap-frame o (inner s) w v (apart-received x y n k f w v (read-as o n x) (read-as o k y)) (calm-received x n _ w (read-as o n x) h) (calm-received y k _ v (read-as o k y) g) in
+    record { first = W .first; second = W .second; like = record { places = W .moved .places; states = W .moved .states; shares = refl } }
+swap s (frame x n) (tick t m) f h g = clash true refl (sym g)
+swap s (frame x n) (pilot p t) f h g = clash true refl (sym g)
+swap s (frame x n) terminate f h g = clash true refl (sym g)
+swap s (frame x n) linkUp f h g = clash true refl (sym g)
+swap s (tick t n) y f h g = clash true refl (sym h)
+swap s (pilot p t) y f h g = clash true refl (sym h)
+swap s terminate y f h g = clash true refl (sym h)
+swap s linkUp y f h g = clash true refl (sym h)

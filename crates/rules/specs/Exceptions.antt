@@ -1,0 +1,90 @@
+-- Demand 3's exceptions are needed, and its windows are not empty: computed examples of a configured station.
+use Prim.Native.Nat.{ℕ, zero, suc, _+_, _-_}
+use mathlib.Core.Path.{_≡_}
+use mathlib.Core.Bool.{true, false}
+use mathlib.Core.List.{List, [], _∷_}
+use lib.ListN.{length, replicate}
+use Rattle.messages.specs.declared.CarAddress.{CarAddress}
+use Rattle.messages.specs.Table.{Message, slacParmReq, startAttenCharInd, attenCharRsp, slacMatchReq, attenProfileInd, broadcast, groupCount}
+use Rattle.messages.specs.Reading.{no}
+use Rattle.messages.specs.Writing as writing
+use Rattle.rules.specs.declared.Pilot.the-variants.{B}
+use Rattle.rules.specs.declared.Station.{Station}
+use Rattle.rules.specs.Constants.{recordCount, leastOutput}
+use Rattle.rules.specs.Calls.{Call, frame, tick, pilot}
+use Rattle.rules.specs.Records.{mine}
+use Rattle.rules.specs.Rules.{configured, step, outcome, after}
+use Rattle.rules.specs.Demand3.{without, accepted, ends, replies, isPlugIn}
+
+-- ---- a station, its cars and their frames
+
+-- a well configured station
+abbrev station : Station
+station = configured (record { 0 = 0x0200000000AA }) (record { 0 = 0x0200000000BB }) (record { 0 = 5 }) (record { 0 = 1; 1 = 2 })
+
+-- some cars
+abbrev car : ℕ → CarAddress
+car n = record { 0 = 0x020000000000 + n }
+
+-- a message as a frame call
+abbrev sent : Message → Call
+sent m = frame (writing.frame m) leastOutput
+
+-- PARM.REQ, START, PROFILE, RSP and MATCH.REQ of car n, in run 1
+abbrev request : ℕ → Call
+request n = sent (record { kind = slacParmReq; dst = broadcast; src = car n .0; values = (1, tt) })
+
+abbrev start : ℕ → Call
+start n = sent (record { kind = startAttenCharInd; dst = broadcast; src = car n .0; values = (1, tt) })
+
+abbrev profile : ℕ → Call
+profile n = sent (record { kind = attenProfileInd; dst = 0x0200000000AA; src = 0x0200000000BB; values = (car n .0, (replicate groupCount 10, tt)) })
+
+abbrev response : ℕ → Call
+response n = sent (record { kind = attenCharRsp; dst = 0x0200000000AA; src = car n .0; values = (1, tt) })
+
+abbrev matching : ℕ → Call
+matching n = sent (record { kind = slacMatchReq; dst = 0x0200000000AA; src = car n .0; values = (1, tt) })
+
+-- requests of n other cars
+abbrev others : ℕ → List Call
+others zero = []
+others (suc n) = request (16 + n) ∷ others n
+
+-- ---- the examples
+
+-- two cars ask after a plug-in
+abbrev two : List Call
+two = pilot B 0 ∷ request 1 ∷ request 2 ∷ []
+
+-- a neighbour asks just before admission ends, and stays past its end
+abbrev late : List Call
+late = pilot B 0 ∷ tick 49900 leastOutput ∷ request 2 ∷ tick 50000 leastOutput ∷ []
+
+-- neighbours hold every record
+abbrev full : List Call
+full = pilot B 0 ∷ others recordCount
+
+-- car 1 holds a record while car 2 is matched
+abbrev match : List Call
+match = pilot B 0 ∷ request 1 ∷ request 2 ∷ start 2 ∷ profile 2 ∷ tick 300 leastOutput ∷ request 1 ∷ tick 600 leastOutput ∷ response 2 ∷ matching 2 ∷ []
+
+-- what comes out
+pub record Exceptions : Type 0 where
+  -- the comparison begins and goes on, and car 1 is sent a reply
+  pub begins : isPlugIn station (pilot B 0) ≡ true
+  pub goes-on : ends (car 1) (request 2) (outcome (step station (pilot B 0)) (request 2)) ≡ false
+  pub replied : length (replies (car 1) station two) ≡ 1
+  pub shorter : length (without (car 1) two) ≡ 2
+  -- refusal numbers may differ: 9 with the neighbour, 8 without
+  pub nine : outcome (after station late) (request 1) ≡ no 9
+  pub eight : outcome (after station (without (car 1) late)) (request 1) ≡ no 8
+  -- refused with 10: answered without the neighbours
+  pub ten : outcome (after station full) (request 1) ≡ no 10
+  pub answered : accepted (outcome (after station (without (car 1) full)) (request 1)) ≡ true
+  -- another car's accepted match request frees car 1's record
+  pub freed : length (mine (car 1) (after station match .records)) ≡ 0
+  pub kept : length (mine (car 1) (after station (without (car 1) match) .records)) ≡ 1
+  -- in a row, refused with 10: whoever comes first has the last record
+  pub first-asks : outcome (step (after station (pilot B 0 ∷ others (recordCount - 1))) (request 2)) (request 1) ≡ no 10
+  pub second-asks : accepted (outcome (after station (pilot B 0 ∷ others (recordCount - 1))) (request 1)) ≡ true

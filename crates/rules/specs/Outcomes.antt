@@ -1,0 +1,30 @@
+-- What a call gives: the number of a refusal, or frames as octets and an indication.
+use Prim.Native.Nat.{ℕ}
+use mathlib.Core.List.{List, []}
+use Rattle.messages.specs.Reading.{Checked, no, yes}
+use Rattle.rules.specs.declared.Indication.{Indication}
+use Rattle.rules.specs.Lists.{joins}
+
+-- the frames that a call reports, each as its octets, and its indication
+pub record Sent : Type 0 where
+  pub frames : List (List ℕ)
+  pub indication : Indication
+
+-- "number given back", or what was sent
+abbrev pub Outcome : Type 0
+Outcome = Checked Sent
+
+-- the frames of an outcome: a refusal has none
+abbrev pub framesOf : Outcome → List (List ℕ)
+framesOf (no n) = []
+framesOf (yes x) = x .frames
+
+-- frames "back to back"
+abbrev pub joined : List (List ℕ) → List ℕ
+joined fs = joins (λ (f : List ℕ). f) fs
+
+module _ {A B : Type 0} where
+  -- what follows an answer: a refusal stays as it is
+  abbrev pub andThen : Checked A → (A → Checked B) → Checked B
+  andThen (no n) f = no n
+  andThen (yes x) f = f x

@@ -1,0 +1,76 @@
+-- What a frame's octets say to a station: reading's refusals, then 17, or a car's request.
+use Prim.Native.Nat.{ℕ}
+use mathlib.Core.Bool.{Bool, true, not, _&&_}
+use mathlib.Core.List.{List}
+use lib.Dec.{eqb}
+use Rattle.messages.specs.declared.CarAddress.{CarAddress}
+use Rattle.messages.specs.declared.RunId.{RunId}
+use Rattle.messages.specs.Layout.{Values}
+use Rattle.messages.specs.Table.{Kind, slacParmReq, slacParmCnf, startAttenCharInd, attenCharInd, attenCharRsp, mnbcSoundInd, slacMatchReq, slacMatchCnf, attenProfileInd, payload, Message}
+use Rattle.messages.specs.Reading.{Checked, no, yes, readRules}
+use Rattle.rules.specs.declared.Configuration.{Configuration}
+use Rattle.rules.specs.Outcomes.{andThen}
+
+-- what concerns a car's record: PARM.REQ, START, SOUND with its count, PROFILE with its group values, RSP
+pub data RecordMessage : Type 0 where
+  parmReq start : RunId → RecordMessage
+  sound : RunId → ℕ → RecordMessage
+  profile : List ℕ → RecordMessage
+  rsp : RunId → RecordMessage
+
+-- what a car's frame asks for: MATCH.REQ, or a change of its record
+pub data Request : Type 0 where
+  forRecord : RecordMessage → Request
+  matchReq : RunId → Request
+
+-- a request, the car that the frame names, and the frame's destination and source
+pub record Received : Type 0 where
+  pub car : CarAddress
+  pub dst : ℕ
+  pub src : ℕ
+  pub request : Request
+
+-- a request of car c in a frame from f to d
+abbrev pub fromCar : ℕ → ℕ → ℕ → Request → Checked Received
+fromCar c d f m = yes (record { car = record { 0 = c }; dst = d; src = f; request = m })
+
+-- the RunID that a field holds
+abbrev pub runOf : ℕ → RunId
+runOf n = record { 0 = n }
+
+-- by the message: 17 where "only a car receives" it
+abbrev pub receivedAs : (k : Kind) (d f : ℕ) → Values (payload k d f) → Checked Received
+receivedAs slacParmReq d f vs = fromCar f d f (forRecord (parmReq (runOf (vs .0))))
+receivedAs slacParmCnf d f vs = no 17
+receivedAs startAttenCharInd d f vs = fromCar f d f (forRecord (start (runOf (vs .0))))
+receivedAs attenCharInd d f vs = no 17
+receivedAs attenCharRsp d f vs = fromCar f d f (forRecord (rsp (runOf (vs .0))))
+receivedAs mnbcSoundInd d f vs = fromCar f d f (forRecord (sound (runOf (vs .1 .0)) (vs .0)))
+receivedAs slacMatchReq d f vs = fromCar f d f (matchReq (runOf (vs .0)))
+receivedAs slacMatchCnf d f vs = no 17
+receivedAs attenProfileInd d f vs = fromCar (vs .0) d f (forRecord (profile (vs .1 .0)))
+
+-- of what reading gives
+abbrev pub receivedIn : Checked Message → Checked Received
+receivedIn x = andThen x (λ (m : Message). receivedAs (m .kind) (m .dst) (m .src) (m .values))
+
+-- reading, 17
+unfoldable pub received : List ℕ → Checked Received
+received s = receivedIn (readRules s)
+
+-- a unicast goes to us, and PROFILE comes from our modem
+abbrev pub toUs : Configuration → ℕ → ℕ → Request → Bool
+toUs o d f (forRecord (parmReq run)) = true
+toUs o d f (forRecord (start run)) = true
+toUs o d f (forRecord (sound run k)) = true
+toUs o d f (forRecord (profile vs)) = eqb d (o .address .0) && eqb f (o .modem .0)
+toUs o d f (forRecord (rsp run)) = eqb d (o .address .0)
+toUs o d f (matchReq run) = eqb d (o .address .0)
+
+-- neither "car is us" nor "our modem"
+abbrev pub notUs : Configuration → CarAddress → Bool
+notUs o c = not (eqb (c .0) (o .address .0)) && not (eqb (c .0) (o .modem .0))
+
+-- what refusal 7 does not concern
+abbrev pub isForUs : Configuration → Received → Bool
+isForUs o x = toUs o (x .dst) (x .src) (x .request) && notUs o (x .car)

@@ -1,0 +1,94 @@
+-- Records: whose they are, which are free, and how one is put back.
+use Prim.Native.Nat.{ℕ, _+_}
+use mathlib.Core.Bool.{Bool, true, false, not, cond, _&&_}
+use mathlib.Core.List.{List, [], _∷_}
+use lib.Dec.{eqb}
+use lib.ListN.{length, replicate}
+use Rattle.messages.specs.declared.CarAddress.{CarAddress}
+use Rattle.messages.specs.declared.RunId.{RunId}
+use Rattle.messages.specs.Table.{groupCount}
+use Rattle.rules.specs.declared.Phase.{Phase}
+use Rattle.rules.specs.declared.Phase.the-variants.{Asked, Reported}
+use Rattle.rules.specs.declared.Record.{Record}
+use Rattle.rules.specs.Constants.{askedTime, reportedTime}
+use Rattle.rules.specs.Lists.{only}
+
+-- two cars with one address
+unfoldable pub sameCar : CarAddress → CarAddress → Bool
+sameCar c d = eqb (c .0) (d .0)
+
+-- two equal RunIDs
+unfoldable pub sameRun : RunId → RunId → Bool
+sameRun a b = eqb (a .0) (b .0)
+
+-- a record that a car holds
+unfoldable pub isHeld : Record → Bool
+isHeld r = r .held
+
+-- a record that no car holds
+abbrev pub isFree : Record → Bool
+isFree r = not (isHeld r)
+
+-- a "held one with its address"
+unfoldable pub holds : CarAddress → Record → Bool
+holds c r = isHeld r && sameCar c (r .car)
+
+-- "its record": the records that car c holds (never two)
+abbrev pub mine : CarAddress → List Record → List Record
+mine c rs = only (holds c) rs
+
+-- how many records are free
+abbrev pub freePlaces : List Record → ℕ
+freePlaces rs = length (only isFree rs)
+
+-- "no record is held"
+abbrev pub noneHeld : List Record → Bool
+noneHeld rs = eqb (length (only isHeld rs)) 0
+
+-- the record as car c's own, and held
+unfoldable pub owned : CarAddress → Record → Record
+owned c r = record { car = c; run = r .run; held = true; phase = r .phase; heard = r .heard; profiles = r .profiles; sums = r .sums }
+
+-- "record freed"
+unfoldable pub freed : Record → Record
+freed r = record { car = r .car; run = r .run; held = false; phase = r .phase; heard = r .heard; profiles = r .profiles; sums = r .sums }
+
+-- the record n for the one that car c holds
+unfoldable pub update : CarAddress → Record → List Record → List Record
+update c n [] = []
+update c n (r ∷ rs) = cond (holds c r) (n ∷ rs) (r ∷ update c n rs)
+
+-- the record n for "the first free record"
+unfoldable pub insert : Record → List Record → List Record
+insert n [] = []
+insert n (r ∷ rs) = cond (isHeld r) (r ∷ insert n rs) (n ∷ rs)
+
+-- sums of no profile
+unfoldable pub noSums : List ℕ
+noSums = replicate groupCount 0
+
+-- "phase Asked, 400; the request's run taken; sums, set and count zero"
+unfoldable pub fresh : CarAddress → RunId → Record
+fresh c run = record { car = c; run = run; held = true; phase = Asked askedTime; heard = 0; profiles = 0; sums = noSums }
+
+-- the record in another phase
+unfoldable pub inPhase : Phase → Record → Record
+inPhase p r = record { car = r .car; run = r .run; held = r .held; phase = p; heard = r .heard; profiles = r .profiles; sums = r .sums }
+
+-- "Reported, 200", with so many retries left
+abbrev pub reported : ℕ → Record → Record
+reported n r = inPhase (Reported reportedTime n) r
+
+-- the record with another set of sound counts
+unfoldable pub withHeard : ℕ → Record → Record
+withHeard h r = record { car = r .car; run = r .run; held = r .held; phase = r .phase; heard = h; profiles = r .profiles; sums = r .sums }
+
+-- "values added": each group's value to its sum
+unfoldable pub added : List ℕ → List ℕ → List ℕ
+added [] vs = []
+added (x ∷ xs) [] = x ∷ xs
+added (x ∷ xs) (v ∷ vs) = (x + v) ∷ added xs vs
+
+-- "values added, one more counted"
+unfoldable pub counted : List ℕ → Record → Record
+counted vs r = record { car = r .car; run = r .run; held = r .held; phase = r .phase; heard = r .heard; profiles = r .profiles + 1; sums = added (r .sums) vs }

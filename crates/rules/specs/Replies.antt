@@ -1,0 +1,37 @@
+-- Replies: what the station sends to a car, without the destination, and a report's values.
+use Prim.Native.Nat.{ℕ, _/_}
+use mathlib.Core.List.{List, map}
+use Rattle.messages.specs.declared.CarAddress.{CarAddress}
+use Rattle.messages.specs.declared.RunId.{RunId}
+use Rattle.messages.specs.Table.{Message, slacParmCnf, attenCharInd, slacMatchCnf}
+use Rattle.messages.specs.Writing as writing
+use Rattle.rules.specs.declared.Configuration.{Configuration}
+use Rattle.rules.specs.declared.Record.{Record}
+
+-- PARM.CNF, MATCH.CNF and the report ATTEN_CHAR.IND
+pub data Reply : Type 0 where
+  parmCnf matchCnf : RunId → Reply
+  -- the profiles counted, and a value for each group
+  report : RunId → ℕ → List ℕ → Reply
+
+-- "the sum divided by that count, rounded down"
+unfoldable pub mean : ℕ → ℕ → ℕ
+mean count sum = sum / count
+
+-- "a report": "profiles counted, and for each group the sum divided by that count"
+unfoldable pub reportOf : Record → Reply
+reportOf r = report (r .run) (r .profiles) (map (mean (r .profiles)) (r .sums))
+
+-- a reply as a message from the station to car c
+abbrev pub messageTo : Configuration → CarAddress → Reply → Message
+messageTo o c (parmCnf run) = record { kind = slacParmCnf; dst = c .0; src = o .address .0; values = (run .0, tt) }
+messageTo o c (matchCnf run) = record { kind = slacMatchCnf; dst = c .0; src = o .address .0; values = (run .0, (o .nid .0, (o .nmk .0, (o .nmk .1, tt)))) }
+messageTo o c (report run n vs) = record { kind = attenCharInd; dst = c .0; src = o .address .0; values = (run .0, (n, (vs, tt))) }
+
+-- the octets of a reply to car c
+unfoldable pub frameTo : Configuration → CarAddress → Reply → List ℕ
+frameTo o c t = writing.frame (messageTo o c t)
+
+-- the octets of each of some replies to car c
+abbrev pub framesTo : Configuration → CarAddress → List Reply → List (List ℕ)
+framesTo o c ts = map (frameTo o c) ts

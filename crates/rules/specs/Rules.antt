@@ -1,0 +1,103 @@
+-- The station's rules whole: what configuring gives, and what each call does and gives.
+use Prim.Native.Nat.{ℕ, _^_}
+use mathlib.Core.Bool.{Bool, not, cond, _&&_}
+use mathlib.Core.List.{List, [], _∷_}
+use lib.Dec.{eqb, ltb}
+use lib.ListN.{replicate}
+use lib.Count.{ones}
+use Rattle.messages.specs.declared.CarAddress.{CarAddress}
+use Rattle.messages.specs.declared.ModemAddress.{ModemAddress}
+use Rattle.messages.specs.declared.Nid.{Nid}
+use Rattle.messages.specs.declared.Nmk.{Nmk}
+use Rattle.messages.specs.declared.StationAddress.{StationAddress}
+use Rattle.messages.specs.Table.{isUnicast}
+use Rattle.messages.specs.Reading.{Checked, no, yes, check}
+use Rattle.rules.specs.declared.Indication.the-variants.{Nothing}
+use Rattle.rules.specs.declared.Pilot.{Pilot}
+use Rattle.rules.specs.declared.Pilot.the-variants.{A}
+use Rattle.rules.specs.declared.Record.{Record}
+use Rattle.rules.specs.declared.State.the-variants.{Unmatched}
+use Rattle.rules.specs.declared.Station.{Station}
+use Rattle.rules.specs.Constants.{recordCount}
+use Rattle.rules.specs.Calls.{Call, frame, tick, pilot, terminate, linkUp}
+use Rattle.rules.specs.Outcomes.{Outcome, andThen}
+use Rattle.rules.specs.Stations.{Shared, Inner, shared, inner, build, Done, next, outcomeOf}
+use Rattle.rules.specs.Records.{mine, freed, fresh}
+use Rattle.rules.specs.Received.{received}
+use Rattle.rules.specs.Events.{plugged, ended, pilotDone, linkRule}
+use Rattle.rules.specs.Frames.{atOwn, admitted, frameRule}
+use Rattle.rules.specs.Ticks.{tickElapsed, tickDone}
+
+-- ---- configuring
+
+-- "our address and the modem's unicast and different, NID below 2^54"
+abbrev pub isGood : StationAddress → ModemAddress → Nid → Bool
+isGood a m nid = isUnicast (a .0) && isUnicast (m .0) && not (eqb (a .0) (m .0)) && ltb (nid .0) (2 ^ 54)
+
+-- a record that no car has held
+unfoldable pub freeRecord : Record
+freeRecord = freed (fresh (record { 0 = 0 }) (record { 0 = 0 }))
+
+-- the station that configuring gives: "Unmatched (at first)", pilot "A at first", reading "0 at first"
+unfoldable pub configured : StationAddress → ModemAddress → Nid → Nmk → Station
+configured a m nid nmk = record {
+  config = record { good = isGood a m nid; address = a; modem = m; nid = nid; nmk = nmk };
+  state = Unmatched;
+  pilot = A;
+  clock = 0;
+  records = replicate recordCount freeRecord;
+}
+
+-- what configuring gives: "a bad one gives 16"
+abbrev pub configuring : StationAddress → ModemAddress → Nid → Outcome
+configuring a m nid = check (isGood a m nid) 16 (yes (record { frames = []; indication = Nothing }))
+
+-- ---- the calls
+
+-- what a call does to the state and the records, given the shared part
+unfoldable pub rule : Shared → Inner → Call → Checked Done
+rule o i (frame s room) = frameRule (o .config) i (admitted (o .config) room (received s))
+rule o i (tick t room) = andThen (tickElapsed o t room) (λ (e : ℕ). yes (tickDone (o .config) e (i .state) (i .records)))
+rule o i (pilot p t) = check (o .config .good) 16 (yes (pilotDone (plugged (o .pilot)) (plugged p) i))
+rule o i terminate = check (o .config .good) 16 (yes (ended i))
+rule o i linkUp = check (o .config .good) 16 (linkRule (i .state) (i .records))
+
+-- an accepted tick takes the reading
+unfoldable pub takesReading : Checked ℕ → ℕ → Shared → Shared
+takesReading (no n) t o = o
+takesReading (yes e) t o = record { config = o .config; pilot = o .pilot; clock = t }
+
+-- a pilot change takes the pilot state, and the reading unless it is one among B, C and D
+unfoldable pub takesPilot : Pilot → ℕ → Shared → Shared
+takesPilot p t o = record { config = o .config; pilot = p; clock = cond (plugged (o .pilot) && plugged p) (o .clock) t }
+
+-- what a call does to the shared part: no state and no record is looked at
+unfoldable pub sharedStep : Shared → Call → Shared
+sharedStep o (frame s room) = o
+sharedStep o (tick t room) = takesReading (tickElapsed o t room) t o
+sharedStep o (pilot p t) = cond (o .config .good) (takesPilot p t o) o
+sharedStep o terminate = o
+sharedStep o linkUp = o
+
+-- the station after a call
+unfoldable pub step : Station → Call → Station
+step s x = build (sharedStep (shared s) x) (next (inner s) (rule (shared s) (inner s) x))
+
+-- what a call gives
+unfoldable pub outcome : Station → Call → Outcome
+outcome s x = outcomeOf (rule (shared s) (inner s) x)
+
+-- the station after some calls
+abbrev pub after : Station → List Call → Station
+after s [] = s
+after s (x ∷ xs) = after (step s x) xs
+
+-- ---- the service query
+
+-- "the number of ones in its set"; "11 where the car holds no record"
+abbrev pub heardIn : CarAddress → List Record → Checked ℕ
+heardIn c rs = atOwn (mine c rs) (λ (r : Record). yes (ones (r .heard)))
+
+-- "by car address": 16, then 11
+unfoldable pub soundsHeard : Station → CarAddress → Checked ℕ
+soundsHeard s c = check (s .config .good) 16 (heardIn c (s .records))

@@ -1,0 +1,261 @@
+// The station's types, configuring it, and the service query. What its calls do stands in specs/.
+
+use messages::CarAddress;
+use messages::GROUPS;
+use messages::ModemAddress;
+use messages::Nid;
+use messages::Nmk;
+use messages::Refusal;
+use messages::RunId;
+use messages::StationAddress;
+ghost use mathlib.Core.Path.{_≡_};
+ghost use lib.ListN.{replicate};
+ghost use Rattle.rules.specs.Constants.{recordCount};
+ghost use Rattle.rules.specs.Records as records;
+ghost use Rattle.rules.specs.Records.{noSums};
+ghost use Rattle.rules.specs.Rules.{isGood, freeRecord, heardIn, soundsHeard};
+ghost use Rattle.rules.specs.Answers.{heardOf, Configures};
+
+// Admission's time, in milliseconds as the others: the greatest TT_EVSE_SLAC_init.
+pub const ADMISSION_TIME: u32 = 50000;
+
+// Asked's time: TT_match_sequence.
+pub const ASKED_TIME: u32 = 400;
+
+// Sounding's time: TT_EVSE_match_MNBC.
+pub const SOUNDING_TIME: u32 = 600;
+
+// Reported's time: TT_match_response.
+pub const REPORTED_TIME: u32 = 200;
+
+// Awaiting's time: TT_EVSE_match_session.
+pub const AWAITING_TIME: u32 = 10000;
+
+// Joining's time: TT_match_join.
+pub const JOINING_TIME: u32 = 12000;
+
+// The longest gap between two readings that a tick takes.
+pub const LONGEST_GAP: u32 = 60000;
+
+// How often a report is sent again: C_EV_match_retry.
+pub const RETRIES: u8 = 2;
+
+// How many sounds a car sends, and how many profiles close Sounding: C_EV_match_MNBC.
+pub const SOUNDS: u8 = 10;
+
+// How many runs are matched side by side: C_EVSE_match_parallel.
+pub const RECORDS: usize = 5;
+
+// How many octets a report takes.
+pub const REPORT_OCTETS: usize = 129;
+
+// The least output that a frame or a tick asks for: a report of every record.
+pub const LEAST_OUTPUT: usize = REPORT_OCTETS * RECORDS;
+
+// What a station is configured with; good is false where it was refused.
+pub struct Configuration {
+    pub good: bool,
+    pub address: StationAddress,
+    pub modem: ModemAddress,
+    pub nid: Nid,
+    pub nmk: Nmk,
+}
+
+// Where a car's run stands, with the time left.
+pub enum Phase {
+    Asked(u32),
+    Sounding(u32),
+    Reported { left: u32, retries: u8 },
+    Awaiting(u32),
+}
+
+// One car's run: the sound counts heard are the ones of a set, the sums those of the profiles counted.
+pub struct Record {
+    pub car: CarAddress,
+    pub run: RunId,
+    pub held: bool,
+    pub phase: Phase,
+    pub heard: u16,
+    pub profiles: u8,
+    pub sums: [u16; GROUPS],
+}
+
+// The station's state; Matching carries admission's time left, Joining its own.
+pub enum State {
+    Unmatched,
+    Matching(u32),
+    Joining {
+        left: u32,
+        car: CarAddress,
+        run: RunId,
+    },
+    Matched,
+}
+
+// The state of the control pilot.
+pub enum Pilot {
+    A,
+    B,
+    C,
+    D,
+    E,
+    F,
+}
+
+// A charging station's side of SLAC matching; the clock is the last reading taken.
+pub struct Station {
+    pub config: Configuration,
+    pub state: State,
+    pub pilot: Pilot,
+    pub clock: u32,
+    pub records: [Record; RECORDS],
+}
+
+// What a call tells besides its frames.
+pub enum Indication {
+    Nothing,
+    NoLink,
+    LinkEstablished,
+}
+
+// What a call gives: a refusal, or how many frames of how many octets in all stand in the output.
+pub enum Answer {
+    Refused(Refusal),
+    Done {
+        frames: u8,
+        octets: usize,
+        indication: Indication,
+    },
+}
+
+// The station after a call, and what the call gives.
+pub struct Stepped {
+    pub station: Station,
+    pub answer: Answer,
+}
+
+// The station that configuring gives, and what it answers.
+pub struct Configured {
+    pub station: Station,
+    pub answer: Answer,
+}
+
+// What the service query gives: how many sounds a car's run has heard.
+pub enum HeardAnswer {
+    Refused(Refusal),
+    Heard(u32),
+}
+
+// Sums of no profile.
+fn no_sums() -> [u16; GROUPS]
+    ensures { λ r. ⌜ r ≡ noSums ⌝ }
+{
+    [0; GROUPS]
+}
+
+// A record that no car has held.
+fn free_record() -> Record
+    ensures { λ r. ⌜ r ≡ freeRecord ⌝ }
+{
+    let sums = no_sums();
+    Record {
+        car: CarAddress(0),
+        run: RunId(0),
+        held: false,
+        phase: Phase::Asked(ASKED_TIME),
+        heard: 0,
+        profiles: 0,
+        sums: sums,
+    }
+}
+
+// The records of a station that no car has asked.
+fn free_records() -> [Record; RECORDS]
+    ensures { λ r. ⌜ r ≡ replicate recordCount freeRecord ⌝ }
+{
+    let free = free_record();
+    [free; RECORDS]
+}
+
+// Whether a configuration is good: both addresses unicast and different, the NID below 2^54.
+fn is_good(address: StationAddress, modem: ModemAddress, nid: Nid) -> bool
+    ensures { λ r. ⌜ r ≡ isGood address modem nid ⌝ }
+{
+    messages::is_unicast(address.0)
+        & messages::is_unicast(modem.0)
+        & (address.0 != modem.0)
+        & (nid.0 < messages::NID_LIMIT)
+}
+
+// A station, unmatched; a bad configuration is refused, and its station answers 16 to everything.
+pub fn configure(address: StationAddress, modem: ModemAddress, nid: Nid, nmk: Nmk) -> Configured
+    ensures { λ r. ⌜ Configures address modem nid nmk r ⌝ }
+{
+    let good = is_good(address, modem, nid);
+    let records = free_records();
+    let config = Configuration {
+        good: good,
+        address: address,
+        modem: modem,
+        nid: nid,
+        nmk: nmk,
+    };
+    let station = Station {
+        config: config,
+        state: State::Unmatched,
+        pilot: Pilot::A,
+        clock: 0,
+        records: records,
+    };
+    if good {
+        Configured {
+            station: station,
+            answer: Answer::Done {
+                frames: 0,
+                octets: 0,
+                indication: Indication::Nothing,
+            },
+        }
+    } else {
+        Configured {
+            station: station,
+            answer: Answer::Refused(Refusal::BadConfiguration),
+        }
+    }
+}
+
+// Whether a record is one that the car holds.
+pub fn holds(car: CarAddress, r: Record) -> bool
+    ensures { λ b. ⌜ b ≡ records.holds car r ⌝ }
+{
+    let owner = r.car;
+    r.held & (car.0 == owner.0)
+}
+
+// How many sounds the car's record has heard.
+fn heard_in(records: [Record; RECORDS], car: CarAddress) -> HeardAnswer
+    ensures { λ r. ⌜ heardOf r ≡ heardIn car records ⌝ }
+{
+    let mut i: usize = 0;
+    while i < RECORDS {
+        let r = records[i];
+        if holds(car, r) {
+            return HeardAnswer::Heard(u16::count_ones(r.heard));
+        }
+        i = i + 1;
+    }
+    HeardAnswer::Refused(Refusal::NoRecord)
+}
+
+// The service query: how many sounds a car's run has heard.
+pub fn sounds_heard(station: Station, car: CarAddress) -> HeardAnswer
+    ensures { λ r. ⌜ heardOf r ≡ soundsHeard station car ⌝ }
+{
+    let config = station.config;
+    let records = station.records;
+    if config.good {
+        heard_in(records, car)
+    } else {
+        HeardAnswer::Refused(Refusal::BadConfiguration)
+    }
+}
