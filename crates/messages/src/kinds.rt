@@ -1,4 +1,5 @@
 // The kinds of message, by their types and sizes.
+use crate::GROUPS;
 use crate::Refusal;
 use crate::octets::low_number_at;
 use crate::octets::number_at;
@@ -40,12 +41,12 @@ pub(crate) fn payload_size(kind: Kind) -> usize
         Kind::SlacParmReq => 10,
         Kind::SlacParmCnf => 25,
         Kind::StartAttenCharInd => 19,
-        Kind::AttenCharInd => 110,
+        Kind::AttenCharInd => 52 + GROUPS,
         Kind::AttenCharRsp => 51,
         Kind::MnbcSoundInd => 52,
         Kind::SlacMatchReq => 66,
         Kind::SlacMatchCnf => 90,
-        Kind::AttenProfileInd => 66,
+        Kind::AttenProfileInd => 8 + GROUPS,
     }
 }
 

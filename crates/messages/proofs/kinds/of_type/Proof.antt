@@ -3,7 +3,7 @@ use borrow.Author.Needs.{needs}
 use borrow.Author.Tests.{ne-eqb}
 use mathlib.Core.Path.{_∙_}
 use Rattle.messages.proofs.TableLaws.{by-type}
-use Rattle.messages.specs.Table.{slacParmReq, slacParmCnf, startAttenCharInd, attenCharInd, attenCharRsp, mnbcSoundInd, slacMatchReq, slacMatchCnf, attenProfileInd}
+use Rattle.messages.specs.Table.{typeOf, slacParmReq, slacParmCnf, startAttenCharInd, attenCharInd, attenCharRsp, mnbcSoundInd, slacMatchReq, slacMatchCnf, attenProfileInd}
 use Rattle.messages.proofs.kinds.of_type.Statement.{statement}
 use Rattle.messages.proofs.kinds.of_type.Tie as tie
 
@@ -62,7 +62,7 @@ returns-9 : tie.Need-returns-9
 returns-9 c = c .of-size9 .ensures ∙ by-type attenProfileInd _ _ (c .before .match .keys9)
 
 returns-10 : tie.Need-returns-10
-returns-10 c = simp (ne-eqb _ 0x6086 (c .match .rest .1), ne-eqb _ 0x607D (c .match .rest .0 .1), ne-eqb _ 0x607C (c .match .rest .0 .0 .1), ne-eqb _ 0x6076 (c .match .rest .0 .0 .0 .1), ne-eqb _ 0x606F (c .match .rest .0 .0 .0 .0 .1), ne-eqb _ 0x606E (c .match .rest .0 .0 .0 .0 .0 .1), ne-eqb _ 0x606A (c .match .rest .0 .0 .0 .0 .0 .0 .1), ne-eqb _ 0x6065 (c .match .rest .0 .0 .0 .0 .0 .0 .0 .1), ne-eqb _ 0x6064 (c .match .rest .0 .0 .0 .0 .0 .0 .0 .0 .1))
+returns-10 c = simp (ne-eqb _ (typeOf attenProfileInd) (c .match .rest .1), ne-eqb _ (typeOf slacMatchCnf) (c .match .rest .0 .1), ne-eqb _ (typeOf slacMatchReq) (c .match .rest .0 .0 .1), ne-eqb _ (typeOf mnbcSoundInd) (c .match .rest .0 .0 .0 .1), ne-eqb _ (typeOf attenCharRsp) (c .match .rest .0 .0 .0 .0 .1), ne-eqb _ (typeOf attenCharInd) (c .match .rest .0 .0 .0 .0 .0 .1), ne-eqb _ (typeOf startAttenCharInd) (c .match .rest .0 .0 .0 .0 .0 .0 .1), ne-eqb _ (typeOf slacParmCnf) (c .match .rest .0 .0 .0 .0 .0 .0 .0 .1), ne-eqb _ (typeOf slacParmReq) (c .match .rest .0 .0 .0 .0 .0 .0 .0 .0 .1))
 
 pub of-type-spec : {M : Type 1} → statement M
 of-type-spec =
