@@ -1,0 +1,154 @@
+//! What a script reaches: how often each refusal, indication, state and accepted message occurs.
+
+use crate::messages::{Body, Kind, Message};
+use crate::refusal::{self, Refusal};
+use crate::script::{Event, Outcome};
+use crate::station::{Indication, Phase, State, Station};
+use std::collections::BTreeMap;
+use std::fmt;
+
+/// Counts by group and row, in the order of the table.
+#[derive(Default)]
+pub struct Counts(BTreeMap<(&'static str, String), u64>);
+
+impl Counts {
+    /// A table of zeros, so that what is never reached shows.
+    pub fn new() -> Counts {
+        let mut counts = Counts::default();
+        let mut row = |group, name: &str| counts.0.insert((group, name.into()), 0);
+        for (number, words) in (1..).zip(refusal::WORDS) {
+            row("1 refusal", &refused(number, words));
+        }
+        for kind in Kind::ALL {
+            row("5 damaged", kind.name());
+            row("6 short output", kind.name());
+            if !matches!(kind, Kind::ParmCnf | Kind::AttenChar | Kind::MatchCnf) {
+                row("4 accepted", kind.name());
+            }
+        }
+        for name in ["none", "no link", "link established"] {
+            row("2 indication", name);
+        }
+        for name in STATES {
+            row("3 after the event", name);
+        }
+        counts
+    }
+
+    fn add(&mut self, group: &'static str, name: &str) {
+        *self.0.entry((group, name.into())).or_default() += 1;
+    }
+
+    pub fn configured(&mut self, answer: Result<(), Refusal>) {
+        if let Err(refusal) = answer {
+            self.refused(refusal);
+        }
+    }
+
+    fn refused(&mut self, refusal: Refusal) {
+        let number = refusal.number();
+        self.add("1 refusal", &refused(number, refusal::words(number)));
+    }
+
+    /// Counts one event by the station before and after it.
+    pub fn event(&mut self, event: &Event, before: &Station, after: &Station, outcome: &Outcome) {
+        let kind = match event {
+            Event::Frame { octets, .. } => Kind::of(octets).map_or("unknown type", Kind::name),
+            Event::Tick { .. } => "tick",
+            Event::Pilot { .. } => "pilot",
+            Event::Terminate => "terminate",
+            Event::LinkUp => "link up",
+            Event::Query { .. } => "query",
+        };
+        match outcome {
+            Ok((indication, _)) => {
+                self.add("4 accepted", kind);
+                let indication = match indication {
+                    None => "none",
+                    Some(Indication::NoLink) => "no link",
+                    Some(Indication::LinkEstablished) => "link established",
+                };
+                self.add("2 indication", indication);
+            }
+            Err(refusal) => {
+                self.refused(*refusal);
+                if refusal.number() <= 6 {
+                    self.add("5 damaged", kind);
+                } else if *refusal == Refusal::Output {
+                    self.add("6 short output", kind);
+                }
+            }
+        }
+        self.states(after);
+        self.passages(event, before, after, outcome);
+    }
+
+    fn states(&mut self, after: &Station) {
+        let state = match after.state {
+            State::Unmatched => "Unmatched",
+            State::Matching { admission: 0 } => "Matching, admission closed",
+            State::Matching { .. } => "Matching, admission open",
+            State::Joining { .. } => "Joining",
+            State::Matched => "Matched",
+        };
+        self.add("3 after the event", state);
+        self.add("3 after the event", &format!("pilot {:?}", after.pilot));
+        self.add("3 after the event", &format!("records held: {}", after.records().count()));
+        for record in after.records() {
+            let phase = match record.phase {
+                Phase::Reported { retries } => format!("record Reported, {retries} retries"),
+                phase => format!("record {phase:?}"),
+            };
+            self.add("3 after the event", &phase);
+        }
+    }
+
+    /// Restarts, repeated confirmations, wraps and reports.
+    fn passages(&mut self, event: &Event, before: &Station, after: &Station, outcome: &Outcome) {
+        let Ok((_, octets)) = outcome else { return };
+        let closed = before.state == State::Matching { admission: 0 };
+        let passage = match event {
+            Event::Frame { octets: frame, .. } => {
+                let Ok(Message { source, body, .. }) = Message::read(frame) else { return };
+                match body {
+                    Body::ParmReq { .. } if before.record(source).is_none() => return,
+                    Body::ParmReq { .. } if closed => "restart, admission closed".into(),
+                    Body::ParmReq { .. } => "restart, admission open".into(),
+                    Body::AttenProfile { .. } if !octets.is_empty() => "ten profiles".into(),
+                    Body::MatchReq { .. } if before == after => "MATCH.CNF again".into(),
+                    _ => return,
+                }
+            }
+            Event::Tick { .. } => {
+                if after.reading < before.reading {
+                    self.add("7 passage", "the clock wraps");
+                }
+                format!("tick with {} reports", octets.len() / 129)
+            }
+            _ => return,
+        };
+        self.add("7 passage", &passage);
+    }
+}
+
+const STATES: [&str; 23] = [
+    "Unmatched", "Matching, admission open", "Matching, admission closed", "Joining", "Matched",
+    "pilot A", "pilot B", "pilot C", "pilot D", "pilot E", "pilot F", "record Asked",
+    "record Sounding", "record Reported, 0 retries", "record Reported, 1 retries",
+    "record Reported, 2 retries", "record Awaiting", "records held: 0", "records held: 1",
+    "records held: 2", "records held: 3", "records held: 4", "records held: 5",
+];
+
+fn refused(number: u32, words: &str) -> String {
+    format!("{number:>2} {words}")
+}
+
+impl fmt::Display for Counts {
+    fn fmt(&self, f: &mut fmt::Formatter) -> fmt::Result {
+        for ((group, name), count) in &self.0 {
+            let group = group.trim_start_matches(|c: char| c.is_ascii_digit()).trim_start();
+            writeln!(f, "{group:<16}  {name:<40}  {count:>9}")?;
+        }
+        Ok(())
+    }
+}

@@ -1,0 +1,104 @@
+//! A second SLAC station, written from the scope paper alone: it runs bench scripts, makes random
+//! ones and compares outputs.
+
+mod compare;
+mod count;
+mod generate;
+mod messages;
+mod refusal;
+mod script;
+mod show;
+mod station;
+#[cfg(test)]
+mod tests;
+
+use count::Counts;
+use script::Script;
+use station::Station;
+use std::ffi::OsString;
+use std::fs::File;
+use std::io::{self, BufWriter, Read, Write};
+use std::process::ExitCode;
+
+const USAGE: &str = "usage: reference run | show | count (a script on standard input) \
+                     | generate SEED EVENTS | demo | compare A B";
+
+fn main() -> ExitCode {
+    let arguments: Vec<OsString> = std::env::args_os().skip(1).collect();
+    let words: Vec<&str> = arguments.iter().map(|word| word.to_str().unwrap_or("")).collect();
+    let (input, mut out) = (io::stdin().lock(), BufWriter::new(io::stdout().lock()));
+    let done = match (&words[..], &arguments[..]) {
+        (["run"], _) => run(input, &mut out),
+        (["show"], _) => show(input, &mut out),
+        (["count"], _) => count(input, &mut out),
+        (["demo"], _) => generate::demo(&mut out).map(|()| true),
+        (["generate", seed, events], _) => match (seed.parse(), events.parse()) {
+            (Ok(seed), Ok(events)) => generate::generate(seed, events, &mut out).map(|()| true),
+            _ => Err(io::Error::other("SEED and EVENTS are numbers")),
+        },
+        (["compare", ..], [_, a, b]) => compare_files(a, b, &mut out),
+        _ => Err(io::Error::other(USAGE)),
+    };
+    // What was answered before an error stays.
+    match done.and_then(|equal| out.flush().map(|()| equal)) {
+        Ok(true) => ExitCode::SUCCESS,
+        Ok(false) => ExitCode::FAILURE,
+        Err(error) => {
+            let flushed = out.flush();
+            let _ = writeln!(io::stderr(), "reference: {}", flushed.err().unwrap_or(error));
+            ExitCode::FAILURE
+        }
+    }
+}
+
+/// `run`: answers each event before it waits for the next.
+fn run(input: impl Read, out: &mut impl Write) -> io::Result<bool> {
+    let mut script = Script::open(input)?;
+    let (mut station, answer) = Station::configure(script.config);
+    script::write_configured(out, answer)?;
+    loop {
+        if script.is_waiting() {
+            out.flush()?;
+        }
+        let Some(event) = script.next_event()? else { return Ok(true) };
+        script::write_outcome(out, &event.happen(&mut station))?;
+    }
+}
+
+/// `show`: a readable line for each event.
+fn show(input: impl Read, out: &mut impl Write) -> io::Result<bool> {
+    let mut script = Script::open(input)?;
+    let (mut station, answer) = Station::configure(script.config);
+    if answer.is_err() {
+        writeln!(out, "bad configuration")?;
+    }
+    writeln!(out, "{}", show::HEADING)?;
+    while let Some(event) = script.next_event()? {
+        let outcome = event.happen(&mut station);
+        writeln!(out, "{}", show::line(&event, &station, &outcome))?;
+    }
+    Ok(true)
+}
+
+/// `count`: a table of what the script reaches.
+fn count(input: impl Read, out: &mut impl Write) -> io::Result<bool> {
+    let mut script = Script::open(input)?;
+    let (mut station, answer) = Station::configure(script.config);
+    let mut counts = Counts::new();
+    counts.configured(answer);
+    while let Some(event) = script.next_event()? {
+        let before = station.clone();
+        let outcome = event.happen(&mut station);
+        counts.event(&event, &before, &station, &outcome);
+    }
+    write!(out, "{counts}")?;
+    Ok(true)
+}
+
+/// `compare A B`: equal, or the first event that differs.
+fn compare_files(a: &OsString, b: &OsString, out: &mut impl Write) -> io::Result<bool> {
+    let found = compare::compare(File::open(a)?, File::open(b)?)?;
+    let (Ok(words) | Err(words)) = &found;
+    writeln!(out, "{words}")?;
+    Ok(found.is_ok())
+}

@@ -1,0 +1,293 @@
+//! The nine messages: frames read and written ("Frame head and sizes", "Payload octets").
+
+use crate::refusal::Refusal;
+use std::fmt;
+
+/// An Ethernet address.
+#[derive(Clone, Copy, Debug, PartialEq, Eq)]
+pub struct Address(pub [u8; 6]);
+
+/// The RunID of one matching run.
+#[derive(Clone, Copy, Debug, PartialEq, Eq)]
+pub struct RunId(pub [u8; 8]);
+
+/// The network ID, low octet first.
+#[derive(Clone, Copy, Debug, PartialEq, Eq)]
+pub struct Nid(pub [u8; 7]);
+
+/// The network membership key.
+#[derive(Clone, Copy, Debug, PartialEq, Eq)]
+pub struct Nmk(pub [u8; 16]);
+
+/// One value for each of the 58 carrier groups of an ATTEN_PROFILE.
+pub type Groups = [u8; 58];
+
+impl Address {
+    pub const BROADCAST: Address = Address([0xFF; 6]);
+
+    /// "A unicast address has an even first octet and isn't all zero."
+    pub fn is_unicast(self) -> bool {
+        self.0[0].is_multiple_of(2) && self.0 != [0; 6]
+    }
+}
+
+impl fmt::Display for Address {
+    fn fmt(&self, f: &mut fmt::Formatter) -> fmt::Result {
+        let text = self.0.map(|octet| format!("{octet:02X}")).join(":");
+        f.pad(&text)
+    }
+}
+
+impl Nid {
+    /// Below 2^54: the last octet is at most 3F.
+    pub fn is_valid(self) -> bool {
+        self.0[6] <= 0x3F
+    }
+}
+
+/// A row of the table of messages.
+#[derive(Clone, Copy, Debug, PartialEq, Eq)]
+pub enum Kind {
+    ParmReq,
+    ParmCnf,
+    StartAttenChar,
+    AttenChar,
+    AttenCharRsp,
+    MnbcSound,
+    MatchReq,
+    MatchCnf,
+    AttenProfile,
+}
+
+impl Kind {
+    pub const ALL: [Kind; 9] = [
+        Kind::ParmReq,
+        Kind::ParmCnf,
+        Kind::StartAttenChar,
+        Kind::AttenChar,
+        Kind::AttenCharRsp,
+        Kind::MnbcSound,
+        Kind::MatchReq,
+        Kind::MatchCnf,
+        Kind::AttenProfile,
+    ];
+
+    /// Name, type, payload length and whether it is broadcast.
+    fn row(self) -> (&'static str, u16, usize, bool) {
+        match self {
+            Kind::ParmReq => ("CM_SLAC_PARM.REQ", 0x6064, 10, true),
+            Kind::ParmCnf => ("CM_SLAC_PARM.CNF", 0x6065, 25, false),
+            Kind::StartAttenChar => ("CM_START_ATTEN_CHAR.IND", 0x606A, 19, true),
+            Kind::AttenChar => ("CM_ATTEN_CHAR.IND", 0x606E, 110, false),
+            Kind::AttenCharRsp => ("CM_ATTEN_CHAR.RSP", 0x606F, 51, false),
+            Kind::MnbcSound => ("CM_MNBC_SOUND.IND", 0x6076, 52, true),
+            Kind::MatchReq => ("CM_SLAC_MATCH.REQ", 0x607C, 66, false),
+            Kind::MatchCnf => ("CM_SLAC_MATCH.CNF", 0x607D, 90, false),
+            Kind::AttenProfile => ("CM_ATTEN_PROFILE.IND", 0x6086, 66, false),
+        }
+    }
+
+    pub fn name(self) -> &'static str {
+        self.row().0
+    }
+
+    pub fn type_number(self) -> u16 {
+        self.row().1
+    }
+
+    /// Head and payload: the least that is read.
+    pub fn shortest(self) -> usize {
+        19 + self.row().2
+    }
+
+    /// "A written frame is the larger of 60 and 19 + payload long": the most that is read.
+    pub fn written(self) -> usize {
+        self.shortest().max(60)
+    }
+
+    pub fn is_broadcast(self) -> bool {
+        self.row().3
+    }
+
+    /// The message that the octets' type names, whatever else they hold.
+    pub fn of(frame: &[u8]) -> Option<Kind> {
+        let number = u16::from_le_bytes([*frame.get(15)?, *frame.get(16)?]);
+        Kind::ALL.into_iter().find(|kind| kind.type_number() == number)
+    }
+}
+
+/// What a message says, apart from who sends it to whom.
+#[derive(Clone, Copy, Debug, PartialEq, Eq)]
+pub enum Body {
+    ParmReq { run: RunId },
+    ParmCnf { run: RunId },
+    StartAttenChar { run: RunId },
+    AttenChar { run: RunId, sounds: u8, groups: Groups },
+    AttenCharRsp { run: RunId },
+    MnbcSound { run: RunId, count: u8, random: [u8; 16] },
+    MatchReq { run: RunId },
+    MatchCnf { run: RunId, nid: Nid, nmk: Nmk },
+    AttenProfile { car: Address, groups: Groups },
+}
+
+#[derive(Clone, Copy, Debug, PartialEq, Eq)]
+pub struct Message {
+    pub destination: Address,
+    pub source: Address,
+    pub body: Body,
+}
+
+/// APPLICATION_TYPE and SECURITY_TYPE.
+const APP_SEC: [u8; 2] = [0; 2];
+/// NUM_SOUNDS, TIME_OUT and RESP_TYPE.
+const SOUNDING: [u8; 3] = [0x0A, 0x06, 0x01];
+/// NumGroups.
+const GROUPS: u8 = 0x3A;
+/// The MVFLength of MATCH.REQ and MATCH.CNF.
+const REQ_LENGTH: [u8; 2] = [0x3E, 0];
+const CNF_LENGTH: [u8; 2] = [0x56, 0];
+
+impl Body {
+    pub fn send(self, source: Address, destination: Address) -> Message {
+        Message { destination, source, body: self }
+    }
+
+    pub fn broadcast(self, source: Address) -> Message {
+        self.send(source, Address::BROADCAST)
+    }
+
+    pub fn kind(&self) -> Kind {
+        match self {
+            Body::ParmReq { .. } => Kind::ParmReq,
+            Body::ParmCnf { .. } => Kind::ParmCnf,
+            Body::StartAttenChar { .. } => Kind::StartAttenChar,
+            Body::AttenChar { .. } => Kind::AttenChar,
+            Body::AttenCharRsp { .. } => Kind::AttenCharRsp,
+            Body::MnbcSound { .. } => Kind::MnbcSound,
+            Body::MatchReq { .. } => Kind::MatchReq,
+            Body::MatchCnf { .. } => Kind::MatchCnf,
+            Body::AttenProfile { .. } => Kind::AttenProfile,
+        }
+    }
+
+    /// What the payload's free octets say.
+    fn found(kind: Kind, payload: &[u8]) -> Option<Body> {
+        let run = |at| octets(payload, at).map(RunId);
+        let octet = |at| payload.get(at).copied();
+        Some(match kind {
+            Kind::ParmReq => Body::ParmReq { run: run(2)? },
+            Kind::ParmCnf => Body::ParmCnf { run: run(17)? },
+            Kind::StartAttenChar => Body::StartAttenChar { run: run(11)? },
+            Kind::AttenChar => {
+                Body::AttenChar { run: run(8)?, sounds: octet(50)?, groups: octets(payload, 52)? }
+            }
+            Kind::AttenCharRsp => Body::AttenCharRsp { run: run(8)? },
+            Kind::MnbcSound => {
+                Body::MnbcSound { run: run(20)?, count: octet(19)?, random: octets(payload, 36)? }
+            }
+            Kind::MatchReq => Body::MatchReq { run: run(50)? },
+            Kind::MatchCnf => {
+                let (nid, nmk) = (Nid(octets(payload, 66)?), Nmk(octets(payload, 74)?));
+                Body::MatchCnf { run: run(50)?, nid, nmk }
+            }
+            Kind::AttenProfile => {
+                let car = Address(octets(payload, 0)?);
+                Body::AttenProfile { car, groups: octets(payload, 8)? }
+            }
+        })
+    }
+}
+
+impl Message {
+    /// The car that the frame names; none in a message that only a car receives.
+    pub fn car(&self) -> Option<Address> {
+        match self.body {
+            Body::AttenProfile { car, .. } => Some(car),
+            Body::ParmCnf { .. } | Body::AttenChar { .. } | Body::MatchCnf { .. } => None,
+            _ => Some(self.source),
+        }
+    }
+
+    /// "Reading order: under 19 (1), 2, 3, payload short (1), 4, 5, 6."
+    pub fn read(frame: &[u8]) -> Result<Message, Refusal> {
+        let (head, payload) = frame.split_first_chunk::<19>().ok_or(Refusal::Short)?;
+        if head[12..15] != [0x88, 0xE1, 0x01] || head[17..] != [0, 0] {
+            return Err(Refusal::Head);
+        }
+        let kind = Kind::of(head).ok_or(Refusal::Type)?;
+        if frame.len() < kind.shortest() {
+            return Err(Refusal::Short);
+        }
+        if frame.len() > kind.written() {
+            return Err(Refusal::Long);
+        }
+        let body = Body::found(kind, payload).ok_or(Refusal::Short)?;
+        let [destination, source] = [0, 6].map(|at| octets(head, at).map(Address));
+        let message = body.send(source.ok_or(Refusal::Short)?, destination.ok_or(Refusal::Short)?);
+        // "Every fixed or zero octet is checked": the frame is the one that would be written.
+        let written = message.to_frame()?;
+        let same = frame.iter().zip(&written).take(kind.shortest()).all(|(a, b)| a == b);
+        same.then_some(message).ok_or(Refusal::Octet)
+    }
+
+    /// The written frame, zero padded; "Writing: 5, 6".
+    pub fn to_frame(self) -> Result<Vec<u8>, Refusal> {
+        let Message { destination, source, body } = self;
+        let kind = body.kind();
+        check_addresses(kind, destination, source, self.car().unwrap_or(source))?;
+        if matches!(body, Body::MatchCnf { nid, .. } if !nid.is_valid()) {
+            return Err(Refusal::Octet);
+        }
+        let [low, high] = kind.type_number().to_le_bytes();
+        let head = [0x88, 0xE1, 0x01, low, high, 0, 0];
+        let payload = write_payload(&body, &destination, &source);
+        let mut frame = [&destination.0[..], &source.0, &head, &payload].concat();
+        frame.resize(kind.written(), 0);
+        Ok(frame)
+    }
+
+    /// Writes the frame from the output's first octet and gives its length: "5, 6, then 15".
+    pub fn write(&self, output: &mut [u8]) -> Result<usize, Refusal> {
+        let frame = self.to_frame()?;
+        let place = output.get_mut(..frame.len()).ok_or(Refusal::Output)?;
+        place.copy_from_slice(&frame);
+        Ok(frame.len())
+    }
+}
+
+/// Refusal 5: "source, destination or PROFILE's car of the wrong kind".
+fn check_addresses(kind: Kind, to: Address, from: Address, car: Address) -> Result<(), Refusal> {
+    let destined = if kind.is_broadcast() { to == Address::BROADCAST } else { to.is_unicast() };
+    let good = destined && from.is_unicast() && car.is_unicast();
+    good.then_some(()).ok_or(Refusal::AddressKind)
+}
+
+fn write_payload(body: &Body, to: &Address, from: &Address) -> Vec<u8> {
+    let (to, from) = (&to.0[..], &from.0[..]);
+    let parts: &[&[u8]] = match body {
+        Body::ParmReq { run } => &[&APP_SEC, &run.0],
+        Body::ParmCnf { run } => &[&[0xFF; 6], &SOUNDING, to, &APP_SEC, &run.0],
+        Body::StartAttenChar { run } => &[&APP_SEC, &SOUNDING, from, &run.0],
+        Body::AttenChar { run, sounds, groups } => {
+            &[&APP_SEC, to, &run.0, &[0; 34], &[*sounds, GROUPS], groups]
+        }
+        Body::AttenCharRsp { run } => &[&APP_SEC, from, &run.0, &[0; 34], &[0]],
+        Body::MnbcSound { run, count, random } => {
+            &[&APP_SEC, &[0; 17], &[*count], &run.0, &[0; 8], random]
+        }
+        Body::MatchReq { run } => {
+            &[&APP_SEC, &REQ_LENGTH, &[0; 17], from, &[0; 17], to, &run.0, &[0; 8]]
+        }
+        Body::MatchCnf { run, nid, nmk } => {
+            let matched = [&APP_SEC[..], &CNF_LENGTH, &[0; 17], to, &[0; 17], from, &run.0];
+            return [&matched.concat()[..], &[0; 8], &nid.0, &[0], &nmk.0].concat();
+        }
+        Body::AttenProfile { car, groups } => &[&car.0, &[GROUPS, 0], groups],
+    };
+    parts.concat()
+}
+
+/// So many octets from the given place on.
+fn octets<const N: usize>(from: &[u8], at: usize) -> Option<[u8; N]> {
+    from.get(at..)?.first_chunk().copied()
+}

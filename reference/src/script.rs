@@ -1,0 +1,195 @@
+//! The bench script: its reader and writer, and the output's ("The bench script").
+
+use crate::messages::{Address, Nid, Nmk};
+use crate::refusal::Refusal;
+use crate::station::{Config, Indication, Pilot, Station};
+use std::io::{self, BufRead, BufReader, Read, Write};
+
+/// The most octets of an event, and of the output lent to it.
+pub const MOST: usize = 4096;
+
+#[derive(Clone, Debug, PartialEq, Eq)]
+pub enum Event {
+    Frame { octets: Vec<u8>, room: usize },
+    Tick { reading: u32, room: usize },
+    Pilot { to: Pilot, reading: u32 },
+    Terminate,
+    LinkUp,
+    Query { car: Address },
+}
+
+/// An event's answer: its indication and the octets given back, or the refusal.
+pub type Outcome = Result<(Option<Indication>, Vec<u8>), Refusal>;
+
+impl Event {
+    /// Makes the call that the event is.
+    pub fn happen(&self, station: &mut Station) -> Outcome {
+        let mut output = Vec::new();
+        let accepted = match self {
+            Event::Frame { octets, room } => {
+                output.resize(*room, 0);
+                station.receive(octets, &mut output)?
+            }
+            Event::Tick { reading, room } => {
+                output.resize(*room, 0);
+                station.tick(*reading, &mut output)?
+            }
+            Event::Pilot { to, reading } => station.change_pilot(*to, *reading)?,
+            Event::Terminate => station.terminate()?,
+            Event::LinkUp => station.link_up()?,
+            Event::Query { car } => {
+                return Ok((None, station.sounds_heard(*car)?.to_le_bytes().to_vec()));
+            }
+        };
+        output.truncate(accepted.written);
+        Ok((accepted.indication, output))
+    }
+
+    pub fn write(&self, script: &mut impl Write) -> io::Result<()> {
+        let (kind, reading, room, octets) = match self {
+            Event::Frame { octets, room } => (0, 0, *room, &octets[..]),
+            Event::Tick { reading, room } => (1, *reading, *room, &[][..]),
+            Event::Pilot { to, reading } => (2, *reading, 0, &[*to as u8][..]),
+            Event::Terminate => (3, 0, 0, &[][..]),
+            Event::LinkUp => (4, 0, 0, &[][..]),
+            Event::Query { car } => (5, 0, 0, &car.0[..]),
+        };
+        write_number(script, kind)?;
+        write_number(script, reading)?;
+        write_number(script, number(room)?)?;
+        write_octets(script, octets)
+    }
+}
+
+/// The script's head: the configuration and the number of events.
+pub fn write_head(script: &mut impl Write, config: &Config, events: u32) -> io::Result<()> {
+    script.write_all(&config.station.0)?;
+    script.write_all(&config.modem.0)?;
+    script.write_all(&config.nid.0)?;
+    script.write_all(&config.nmk.0)?;
+    write_number(script, events)
+}
+
+/// The answer to configuring.
+pub fn write_configured(output: &mut impl Write, answer: Result<(), Refusal>) -> io::Result<()> {
+    write_number(output, answer.err().map_or(0, Refusal::number))
+}
+
+/// The answer to an event.
+pub fn write_outcome(output: &mut impl Write, outcome: &Outcome) -> io::Result<()> {
+    let (refusal, indication, octets) = match outcome {
+        Ok((indication, octets)) => (0, indication.map_or(0, |i| i as u32), &octets[..]),
+        Err(refusal) => (refusal.number(), 0, &[][..]),
+    };
+    write_number(output, refusal)?;
+    write_number(output, indication)?;
+    write_octets(output, octets)
+}
+
+fn write_number(out: &mut impl Write, number: u32) -> io::Result<()> {
+    out.write_all(&number.to_le_bytes())
+}
+
+fn write_octets(out: &mut impl Write, octets: &[u8]) -> io::Result<()> {
+    write_number(out, number(octets.len())?)?;
+    out.write_all(octets)
+}
+
+fn number(length: usize) -> io::Result<u32> {
+    u32::try_from(length).map_err(io::Error::other)
+}
+
+/// Input that breaks the layout.
+pub fn broken(what: &str) -> io::Error {
+    io::Error::new(io::ErrorKind::InvalidData, what)
+}
+
+/// The next octets, or "the input ends early".
+pub fn take<const N: usize>(input: &mut impl Read) -> io::Result<[u8; N]> {
+    let mut octets = [0; N];
+    fill(input, &mut octets)?;
+    Ok(octets)
+}
+
+/// The next number, low octet first.
+pub fn take_number(input: &mut impl Read) -> io::Result<u32> {
+    take(input).map(u32::from_le_bytes)
+}
+
+/// The next number, which is at most 4,096.
+fn take_length(input: &mut impl Read) -> io::Result<usize> {
+    match usize::try_from(take_number(input)?) {
+        Ok(length) if length <= MOST => Ok(length),
+        _ => Err(broken("a room or length over 4,096")),
+    }
+}
+
+/// A length of at most 4,096, and so many octets.
+pub fn take_octets(input: &mut impl Read) -> io::Result<Vec<u8>> {
+    let mut octets = vec![0; take_length(input)?];
+    fill(input, &mut octets)?;
+    Ok(octets)
+}
+
+fn fill(input: &mut impl Read, octets: &mut [u8]) -> io::Result<()> {
+    input.read_exact(octets).map_err(|error| match error.kind() {
+        io::ErrorKind::UnexpectedEof => broken("the input ends early"),
+        _ => error,
+    })
+}
+
+/// A script read event by event.
+pub struct Script<R> {
+    input: BufReader<R>,
+    pub config: Config,
+    remaining: u32,
+}
+
+impl<R: Read> Script<R> {
+    /// Reads the head.
+    pub fn open(input: R) -> io::Result<Self> {
+        let mut input = BufReader::new(input);
+        let config = Config {
+            station: Address(take(&mut input)?),
+            modem: Address(take(&mut input)?),
+            nid: Nid(take(&mut input)?),
+            nmk: Nmk(take(&mut input)?),
+        };
+        let remaining = take_number(&mut input)?;
+        Ok(Script { input, config, remaining })
+    }
+
+    /// Whether the next event has yet to arrive, so that answers should go out first.
+    pub fn is_waiting(&self) -> bool {
+        self.input.buffer().is_empty()
+    }
+
+    /// The next event; none after the last, where the input is to end.
+    pub fn next_event(&mut self) -> io::Result<Option<Event>> {
+        let Some(remaining) = self.remaining.checked_sub(1) else {
+            return match self.input.fill_buf()?.is_empty() {
+                true => Ok(None),
+                false => Err(broken("octets after the last event")),
+            };
+        };
+        self.remaining = remaining;
+        let kind = take_number(&mut self.input)?;
+        let reading = take_number(&mut self.input)?;
+        let room = take_length(&mut self.input)?;
+        let octets = take_octets(&mut self.input)?;
+        let event = match (kind, &octets[..]) {
+            (0, _) => Event::Frame { octets, room },
+            (1, []) => Event::Tick { reading, room },
+            (2, [pilot]) => match Pilot::ALL.get(usize::from(*pilot)) {
+                Some(to) => Event::Pilot { to: *to, reading },
+                None => return Err(broken("a pilot state over 5")),
+            },
+            (3, []) => Event::Terminate,
+            (4, []) => Event::LinkUp,
+            (5, &[a, b, c, d, e, f]) => Event::Query { car: Address([a, b, c, d, e, f]) },
+            (0..=5, _) => return Err(broken("an event of the wrong length")),
+            _ => return Err(broken("an unknown kind of event")),
+        };
+        Ok(Some(event))
+    }
+}

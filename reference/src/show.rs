@@ -1,0 +1,75 @@
+//! A readable line for each event of a script.
+
+use crate::compare;
+use crate::messages::{Address, Body, Kind, Message};
+use crate::refusal;
+use crate::script::{Event, Outcome};
+use crate::station::{Indication, Phase, State, Station};
+
+pub const HEADING: &str = "      time  event                            car                \
+state afterwards                          reply; indication";
+
+/// Time, message or event, car, state afterwards, reply, indication.
+pub fn line(event: &Event, station: &Station, outcome: &Outcome) -> String {
+    let (name, car) = describe(event);
+    let reply = match outcome {
+        Err(refusal) => format!("refused {}: {}", *refusal as u8, refusal::words(refusal.number())),
+        Ok((_, octets)) => match (event, octets.is_empty()) {
+            (Event::Query { .. }, _) => {
+                format!("{} sounds heard", octets.first().copied().unwrap_or(0))
+            }
+            (_, true) => "-".into(),
+            (_, false) => compare::frames(octets),
+        },
+    };
+    let indication = match outcome {
+        Ok((Some(Indication::NoLink), _)) => "; no link",
+        Ok((Some(Indication::LinkEstablished), _)) => "; link established",
+        _ => "",
+    };
+    let car_text = car.map_or("-".into(), |car| car.to_string());
+    let state = state(station, car);
+    format!("{:>10}  {name:<31}  {car_text:<17}  {state:<40}  {reply}{indication}", station.reading)
+}
+
+/// The event in words, and the car it names.
+fn describe(event: &Event) -> (String, Option<Address>) {
+    match event {
+        Event::Frame { octets, .. } => match Message::read(octets) {
+            Ok(message) => match message.body {
+                Body::MnbcSound { count, .. } => {
+                    (format!("CM_MNBC_SOUND.IND {count}"), message.car())
+                }
+                body => (body.kind().name().into(), message.car()),
+            },
+            Err(_) => (format!("{} damaged", Kind::of(octets).map_or("frame", Kind::name)), None),
+        },
+        Event::Tick { reading, .. } => (format!("tick {reading}"), None),
+        Event::Pilot { to, .. } => (format!("pilot {to:?}"), None),
+        Event::Terminate => ("terminate".into(), None),
+        Event::LinkUp => ("link up".into(), None),
+        Event::Query { car } => ("query: sounds heard?".into(), Some(*car)),
+    }
+}
+
+/// The station's state, and the car's record or how many records are held.
+fn state(station: &Station, car: Option<Address>) -> String {
+    let held = match car.and_then(|car| station.record(car)) {
+        Some(record) => {
+            let phase = match record.phase {
+                Phase::Reported { retries } => format!("Reported ({retries} retries)"),
+                phase => format!("{phase:?}"),
+            };
+            format!("{phase}, {} ms", record.left)
+        }
+        None if car.is_some() => "no record".into(),
+        None => format!("{} held", station.records().count()),
+    };
+    match station.state {
+        State::Unmatched => "Unmatched".into(),
+        State::Matching { admission: 0 } => format!("Matching (closed): {held}"),
+        State::Matching { .. } => format!("Matching: {held}"),
+        State::Joining { left, .. } => format!("Joining, {left} ms"),
+        State::Matched => "Matched".into(),
+    }
+}

@@ -1,0 +1,398 @@
+//! The station: state, records, the five calls and the service query ("The station").
+
+use crate::messages::{Address, Body, Groups, Kind, Message, Nid, Nmk, RunId};
+use crate::refusal::Refusal;
+
+const ADMISSION: u32 = 50_000;
+const ASKED: u32 = 400;
+const SOUNDING: u32 = 600;
+const REPORTED: u32 = 200;
+const AWAITING: u32 = 10_000;
+const JOINING: u32 = 12_000;
+const RETRIES: u8 = 2;
+const PROFILES: u16 = 10;
+const LONGEST_GAP: u32 = 60_000;
+/// Five reports of 129 octets.
+const LEAST_OUTPUT: usize = 645;
+
+#[derive(Clone, Copy, Debug, PartialEq, Eq)]
+pub struct Config {
+    pub station: Address,
+    pub modem: Address,
+    pub nid: Nid,
+    pub nmk: Nmk,
+}
+
+/// The control pilot's states.
+#[derive(Clone, Copy, Debug, PartialEq, Eq)]
+pub enum Pilot {
+    A,
+    B,
+    C,
+    D,
+    E,
+    F,
+}
+
+impl Pilot {
+    pub const ALL: [Pilot; 6] = [Pilot::A, Pilot::B, Pilot::C, Pilot::D, Pilot::E, Pilot::F];
+
+    /// B, C or D: a car is plugged in.
+    pub fn is_plugged(self) -> bool {
+        matches!(self, Pilot::B | Pilot::C | Pilot::D)
+    }
+}
+
+/// Matching carries admission's remaining time (closed at 0), Joining its own.
+#[derive(Clone, Copy, Debug, PartialEq, Eq)]
+pub enum State {
+    Unmatched,
+    Matching { admission: u32 },
+    Joining { left: u32, car: Address, run: RunId },
+    Matched,
+}
+
+#[derive(Clone, Copy, Debug, PartialEq, Eq)]
+pub enum Phase {
+    Asked,
+    Sounding,
+    Reported { retries: u8 },
+    Awaiting,
+}
+
+/// One car's run.
+#[derive(Clone, Debug, PartialEq, Eq)]
+pub struct Record {
+    pub car: Address,
+    pub run: RunId,
+    /// The M-SOUND counts heard, one bit each.
+    pub heard: u16,
+    pub profiles: u16,
+    pub sums: [u16; 58],
+    pub phase: Phase,
+    /// The phase's remaining time.
+    pub left: u32,
+}
+
+#[derive(Clone, Copy, Debug, PartialEq, Eq)]
+pub enum Indication {
+    NoLink = 1,
+    LinkEstablished,
+}
+
+/// An accepted call: how many octets of the output its frames take, and its indication.
+#[derive(Clone, Copy, Debug, Default, PartialEq, Eq)]
+pub struct Accepted {
+    pub written: usize,
+    pub indication: Option<Indication>,
+}
+
+pub type Answer = Result<Accepted, Refusal>;
+type Checked = Result<(), Refusal>;
+
+#[derive(Clone, Debug, PartialEq, Eq)]
+pub struct Station {
+    /// None after a bad configuration.
+    config: Option<Config>,
+    pub state: State,
+    pub pilot: Pilot,
+    /// The last clock reading taken.
+    pub reading: u32,
+    records: [Option<Record>; 5],
+}
+
+impl Station {
+    /// A bad configuration "gives 16 and an Unmatched station that answers 16 to everything".
+    pub fn configure(config: Config) -> (Station, Checked) {
+        let station = Station {
+            config: config.is_good().then_some(config),
+            state: State::Unmatched,
+            pilot: Pilot::A,
+            reading: 0,
+            records: Default::default(),
+        };
+        let answer = station.config().map(|_| ());
+        (station, answer)
+    }
+
+    /// The records held.
+    pub fn records(&self) -> impl Iterator<Item = &Record> {
+        self.records.iter().flatten()
+    }
+
+    pub fn record(&self, car: Address) -> Option<&Record> {
+        self.records().find(|record| record.car == car)
+    }
+
+    fn config(&self) -> Result<Config, Refusal> {
+        self.config.ok_or(Refusal::Configuration)
+    }
+
+    /// The pilot event.
+    pub fn change_pilot(&mut self, to: Pilot, reading: u32) -> Answer {
+        self.config()?;
+        let from = std::mem::replace(&mut self.pilot, to);
+        let mut indication = None;
+        if !to.is_plugged() {
+            indication = self.unmatch();
+            self.reading = reading;
+        } else if !from.is_plugged() {
+            self.state = State::Matching { admission: ADMISSION };
+            self.records = Default::default();
+            self.reading = reading;
+        }
+        Ok(Accepted { written: 0, indication })
+    }
+
+    /// Terminate: Unmatched in every state, reading and pilot state kept.
+    pub fn terminate(&mut self) -> Answer {
+        self.config()?;
+        Ok(Accepted { written: 0, indication: self.unmatch() })
+    }
+
+    /// Link up: in Joining, Matched and "link established"; else 8.
+    pub fn link_up(&mut self) -> Answer {
+        self.config()?;
+        let State::Joining { .. } = self.state else { return Err(Refusal::State) };
+        self.state = State::Matched;
+        Ok(Accepted { written: 0, indication: Some(Indication::LinkEstablished) })
+    }
+
+    /// The service query: how many sounds of the car's run were heard.
+    pub fn sounds_heard(&self, car: Address) -> Result<u32, Refusal> {
+        self.config()?;
+        let record = self.record(car).ok_or(Refusal::NoRecord)?;
+        Ok(record.heard.count_ones())
+    }
+
+    /// A received frame: "16, 15, reading, 17, 7, 8, then 9 and 10, or 11, 12, 13".
+    pub fn receive(&mut self, frame: &[u8], output: &mut [u8]) -> Answer {
+        let config = self.config()?;
+        let mut output = Output::lent(output)?;
+        let message = Message::read(frame)?;
+        let car = message.car().ok_or(Refusal::CarOnly)?;
+        config.concerns(&message, car)?;
+        match (self.state, message.body) {
+            (State::Matching { .. }, body) => self.matching(car, body, config, &mut output)?,
+            (State::Joining { car: joining, run: its, .. }, Body::MatchReq { run }) => {
+                if (car, run) != (joining, its) {
+                    return Err(Refusal::NoRecord);
+                }
+                output.send(config.match_cnf(run), config.station, car)?;
+            }
+            _ => return Err(Refusal::State),
+        }
+        Ok(Accepted { written: output.used, indication: None })
+    }
+
+    /// A frame in Matching, for each message the rule under "Frames".
+    fn matching(&mut self, car: Address, body: Body, config: Config, out: &mut Output) -> Checked {
+        match body {
+            Body::ParmReq { run } => {
+                let place = self.place(car)?;
+                out.send(Body::ParmCnf { run }, config.station, car)?;
+                *place = Some(Record::asked(car, run));
+            }
+            Body::StartAttenChar { run } => {
+                let record = self.run(car, run)?;
+                match record.phase {
+                    Phase::Asked => record.enter(Phase::Sounding, SOUNDING),
+                    Phase::Sounding => {}
+                    Phase::Reported { .. } | Phase::Awaiting => return Err(Refusal::Phase),
+                }
+            }
+            Body::MnbcSound { run, count, .. } => {
+                let record = self.run(car, run)?.sounding()?;
+                if count > 9 || record.heard & (1 << count) != 0 {
+                    return Err(Refusal::SoundCount);
+                }
+                record.heard |= 1 << count;
+            }
+            Body::AttenProfile { groups, .. } => {
+                let record = self.held(car)?.sounding()?;
+                record.add(&groups);
+                if record.profiles == PROFILES {
+                    out.send(record.report(), config.station, car)?;
+                    record.enter(Phase::Reported { retries: RETRIES }, REPORTED);
+                }
+            }
+            Body::AttenCharRsp { run } => {
+                let record = self.run(car, run)?;
+                let Phase::Reported { .. } = record.phase else { return Err(Refusal::Phase) };
+                record.enter(Phase::Awaiting, AWAITING);
+            }
+            Body::MatchReq { run } => {
+                let Phase::Awaiting = self.run(car, run)?.phase else { return Err(Refusal::Phase) };
+                out.send(config.match_cnf(run), config.station, car)?;
+                self.state = State::Joining { left: JOINING, car, run };
+                self.records = Default::default();
+            }
+            Body::ParmCnf { .. } | Body::AttenChar { .. } | Body::MatchCnf { .. } => {
+                return Err(Refusal::CarOnly);
+            }
+        }
+        Ok(())
+    }
+
+    /// A clock tick: "16, 15, 14"; reports of one tick stand back to back, in record order.
+    pub fn tick(&mut self, reading: u32, output: &mut [u8]) -> Answer {
+        let config = self.config()?;
+        let mut output = Output::lent(output)?;
+        let elapsed = reading.wrapping_sub(self.reading);
+        if elapsed > LONGEST_GAP {
+            return Err(Refusal::TickGap);
+        }
+        self.reading = reading;
+        let mut indication = None;
+        match &mut self.state {
+            State::Unmatched | State::Matched => {}
+            State::Matching { admission } => {
+                for place in &mut self.records {
+                    run_down(place, elapsed, config.station, &mut output)?;
+                }
+                *admission = admission.saturating_sub(elapsed);
+                if *admission == 0 && self.records().next().is_none() {
+                    indication = self.unmatch();
+                }
+            }
+            State::Joining { left, .. } if *left > elapsed => *left -= elapsed,
+            State::Joining { .. } => indication = self.unmatch(),
+        }
+        Ok(Accepted { written: output.used, indication })
+    }
+
+    /// Unmatched with the records free; "no link" if it was Matching or Joining.
+    fn unmatch(&mut self) -> Option<Indication> {
+        self.records = Default::default();
+        match std::mem::replace(&mut self.state, State::Unmatched) {
+            State::Matching { .. } | State::Joining { .. } => Some(Indication::NoLink),
+            State::Unmatched | State::Matched => None,
+        }
+    }
+
+    /// The car's record; else 11.
+    fn held(&mut self, car: Address) -> Result<&mut Record, Refusal> {
+        let mut held = self.records.iter_mut().flatten();
+        held.find(|record| record.car == car).ok_or(Refusal::NoRecord)
+    }
+
+    /// The car's record, if it is of this run; else 11.
+    fn run(&mut self, car: Address, run: RunId) -> Result<&mut Record, Refusal> {
+        let record = self.held(car)?;
+        if record.run == run {
+            Ok(record)
+        } else {
+            Err(Refusal::NoRecord)
+        }
+    }
+
+    /// Where a PARM.REQ goes: the car's own record; "else 9, 10, or the first free record".
+    fn place(&mut self, car: Address) -> Result<&mut Option<Record>, Refusal> {
+        let own = |place: &Option<Record>| place.as_ref().is_some_and(|record| record.car == car);
+        let own = self.records.iter().position(own);
+        if own.is_none() && self.state == (State::Matching { admission: 0 }) {
+            return Err(Refusal::AdmissionClosed);
+        }
+        let index = own.or_else(|| self.records.iter().position(Option::is_none));
+        index.and_then(|index| self.records.get_mut(index)).ok_or(Refusal::FullHouse)
+    }
+}
+
+impl Config {
+    /// "Our address and the modem's unicast and different, NID below 2^54."
+    fn is_good(&self) -> bool {
+        let unicast = self.station.is_unicast() && self.modem.is_unicast();
+        unicast && self.station != self.modem && self.nid.is_valid()
+    }
+
+    /// Refusal 7: "unicast not to us; PROFILE's source not our modem; car is us or our modem".
+    fn concerns(&self, message: &Message, car: Address) -> Checked {
+        let kind = message.body.kind();
+        let to_us = kind.is_broadcast() || message.destination == self.station;
+        let measured = kind != Kind::AttenProfile || message.source == self.modem;
+        let ours = to_us && measured && car != self.station && car != self.modem;
+        ours.then_some(()).ok_or(Refusal::NotOurs)
+    }
+
+    fn match_cnf(&self, run: RunId) -> Body {
+        Body::MatchCnf { run, nid: self.nid, nmk: self.nmk }
+    }
+}
+
+impl Record {
+    fn asked(car: Address, run: RunId) -> Record {
+        let (phase, left) = (Phase::Asked, ASKED);
+        Record { car, run, heard: 0, profiles: 0, sums: [0; 58], phase, left }
+    }
+
+    fn enter(&mut self, phase: Phase, left: u32) {
+        self.phase = phase;
+        self.left = left;
+    }
+
+    /// The record in Sounding; else 12.
+    fn sounding(&mut self) -> Result<&mut Record, Refusal> {
+        if self.phase == Phase::Sounding {
+            Ok(self)
+        } else {
+            Err(Refusal::Phase)
+        }
+    }
+
+    /// "Values added, one more counted."
+    fn add(&mut self, groups: &Groups) {
+        for (sum, value) in self.sums.iter_mut().zip(groups) {
+            *sum += u16::from(*value);
+        }
+        self.profiles += 1;
+    }
+
+    /// The ATTEN_CHAR.IND: "profiles counted, and for each group the sum divided by that count,
+    /// rounded down".
+    fn report(&self) -> Body {
+        let octet = |value: u16| u8::try_from(value).unwrap_or(u8::MAX);
+        let groups = self.sums.map(|sum| octet(sum / self.profiles.max(1)));
+        Body::AttenChar { run: self.run, sounds: octet(self.profiles), groups }
+    }
+}
+
+/// A tick for one record: "a time fires when remaining is at most elapsed; the excess is dropped,
+/// one firing per record per tick. Otherwise the elapsed is taken off."
+fn run_down(place: &mut Option<Record>, elapsed: u32, us: Address, output: &mut Output) -> Checked {
+    let Some(record) = place else { return Ok(()) };
+    if record.left > elapsed {
+        record.left -= elapsed;
+        return Ok(());
+    }
+    let retries = match record.phase {
+        Phase::Sounding if record.profiles > 0 => RETRIES,
+        Phase::Reported { retries } if retries > 0 => retries - 1,
+        Phase::Asked | Phase::Sounding | Phase::Reported { .. } | Phase::Awaiting => {
+            *place = None;
+            return Ok(());
+        }
+    };
+    output.send(record.report(), us, record.car)?;
+    record.enter(Phase::Reported { retries }, REPORTED);
+    Ok(())
+}
+
+/// The lent output: frames stand back to back from its first octet.
+struct Output<'a> {
+    octets: &'a mut [u8],
+    used: usize,
+}
+
+impl<'a> Output<'a> {
+    /// "Frame and tick calls ask for an output of at least 645 octets."
+    fn lent(octets: &'a mut [u8]) -> Result<Self, Refusal> {
+        let enough = octets.len() >= LEAST_OUTPUT;
+        enough.then_some(Output { octets, used: 0 }).ok_or(Refusal::Output)
+    }
+
+    fn send(&mut self, body: Body, station: Address, car: Address) -> Checked {
+        let rest = self.octets.get_mut(self.used..).ok_or(Refusal::Output)?;
+        self.used += body.send(station, car).write(rest)?;
+        Ok(())
+    }
+}
