@@ -80,6 +80,9 @@ pub struct Record {
     pub sums: [u16; GROUPS],
 }
 
+// The records of a station, side by side.
+pub type RecordArray = [Record; RECORDS];
+
 // The station's state; Matching carries admission's time left, Joining its own.
 pub enum State {
     Unmatched,
@@ -108,7 +111,7 @@ pub struct Station {
     pub state: State,
     pub pilot: Pilot,
     pub clock: u32,
-    pub records: [Record; RECORDS],
+    pub records: RecordArray,
 }
 
 // What a call tells besides its frames.
@@ -170,7 +173,7 @@ fn free_record() -> Record
 }
 
 // The records of a station that no car has asked.
-fn free_records() -> [Record; RECORDS]
+fn free_records() -> RecordArray
     ensures { λ r. ⌜ r ≡ replicate recordCount freeRecord ⌝ }
 {
     let free = free_record();
@@ -233,7 +236,7 @@ pub fn holds(car: CarAddress, r: Record) -> bool
 }
 
 // How many sounds the car's record has heard.
-fn heard_in(records: [Record; RECORDS], car: CarAddress) -> HeardAnswer
+fn heard_in(records: RecordArray, car: CarAddress) -> HeardAnswer
     ensures { λ r. ⌜ heardOf r ≡ heardIn car records ⌝ }
 {
     let mut i: usize = 0;

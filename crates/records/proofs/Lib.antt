@@ -1,0 +1,8 @@
+pub mod HeardLaws
+pub mod LoopLaws
+pub mod FillLaws
+pub mod ProfileLaws
+pub mod RequestLaws
+pub mod PlaceLaws
+pub mod ReportLaws
+pub mod TimerLaws

@@ -1,0 +1,180 @@
+-- Each message's rule at a record, as the code comes to it.
+use Prim.Native.Nat.{ℕ, _+_}
+use mathlib.Core.Path.{_≡_, refl, sym, ap, _∙_, subst}
+use mathlib.Core.Bool.{Bool, true, false, not, _&&_}
+use mathlib.Core.List.{List, [], _∷_}
+use borrow.Author.Tests.{eq-eqb, ne-eqb}
+use denote.Enum.Declared.{tagOf}
+use lib.Dec.{ltb}
+use types.Run.{OneOf, miss}
+use Rattle.messages.specs.declared.Refusal.{Refusal}
+use Rattle.messages.specs.declared.RunId.{RunId}
+use Rattle.messages.specs.Answers.{numberOf}
+use Rattle.messages.specs.Reading.{Checked, no, yes, check}
+use Rattle.messages.proofs.CheckLaws.{pass, fail}
+use Rattle.rules.specs.declared.Phase.{Phase}
+use Rattle.rules.specs.declared.Phase.the-variants.{Asked, Sounding, Reported, Awaiting}
+use Rattle.rules.specs.declared.Record.{Record}
+use Rattle.rules.specs.Constants.{soundCount, retryCount}
+use Rattle.rules.specs.Records.{sameRun, inPhase, reported, withHeard, counted}
+use Rattle.rules.specs.Sounds.{isIn, marked}
+use Rattle.rules.specs.Replies.{reportOf}
+use Rattle.rules.specs.Frames.{Kept, keeps, startRule, soundRule, profileRule, rspRule, isAwaiting, matchRule}
+use Rattle.rules.proofs.Phase.{the-type}
+use Rattle.records.specs.declared.requests.Effect.the-variants as effect
+use Rattle.records.specs.declared.requests.Kept as code
+use Rattle.records.specs.Heard.{marking}
+use Rattle.records.specs.Requests.{recordAfter, Keeps}
+use Rattle.records.proofs.HeardLaws.{new-marking}
+
+-- ---- what a message comes to
+
+module _ (r : Record) (rule : Checked Kept) where
+  -- a refusal leaves the record
+  pub refuses : (x : Refusal) → rule ≡ no (numberOf x) → Keeps r rule (record { kept = r; effect = effect.Refused x })
+  refuses x e = record { kept = sym (ap (recordAfter r) e); effect = sym e }
+
+  -- another record, and no reply
+  pub silent : (n m : Record) → n ≡ m → rule ≡ keeps m [] → Keeps r rule (record { kept = n; effect = effect.NoReply })
+  silent n m q e = record { kept = q ∙ sym (ap (recordAfter r) e); effect = ap (λ (x : Record). keeps x []) q ∙ sym e }
+
+  -- another record, and its report
+  pub reports : (n m : Record) → n ≡ m → rule ≡ keeps m (reportOf m ∷ []) → Keeps r rule (record { kept = n; effect = effect.Report })
+  reports n m q e = record { kept = q ∙ sym (ap (recordAfter r) e); effect = ap (λ (x : Record). keeps x (reportOf x ∷ [])) q ∙ sym e }
+
+-- the same rule in other words
+pub as-rule : (r : Record) (x y : Checked Kept) (k : code.Kept) → x ≡ y → Keeps r x k → Keeps r y k
+as-rule r x y k e h = subst (λ (z : Checked Kept). Keeps r z k) e h
+
+-- ---- phases that refuse
+
+-- what Sounding alone takes
+not-sounding : (f : Phase → Checked Kept) → ((t : ℕ) → f (Asked t) ≡ no 12) → ((t n : ℕ) → f (Reported t n) ≡ no 12) → ((t : ℕ) → f (Awaiting t) ≡ no 12)
+    → (p : Phase) → OneOf (0 ∷ 2 ∷ 3 ∷ []) (tagOf the-type p) → f p ≡ no 12
+not-sounding f a b d (Asked t) o = a t
+not-sounding f a b d (Sounding t) o = absurd (miss (0 ∷ 2 ∷ 3 ∷ []) 1 tt o)
+not-sounding f a b d (Reported t n) o = b t n
+not-sounding f a b d (Awaiting t) o = d t
+
+-- SOUND outside Sounding
+pub sound-elsewhere : (k : ℕ) (r : Record) (p : Phase) → OneOf (0 ∷ 2 ∷ 3 ∷ []) (tagOf the-type p) → soundRule k r p ≡ no 12
+unfolding soundRule
+sound-elsewhere k r p o = not-sounding (soundRule k r) (λ t. refl) (λ t n. refl) (λ t. refl) p o
+
+-- PROFILE outside Sounding
+pub profile-elsewhere : (vs : List ℕ) (r : Record) (p : Phase) → OneOf (0 ∷ 2 ∷ 3 ∷ []) (tagOf the-type p) → profileRule vs r p ≡ no 12
+unfolding profileRule
+profile-elsewhere vs r p o = not-sounding (profileRule vs r) (λ t. refl) (λ t n. refl) (λ t. refl) p o
+
+-- START after Sounding
+pub start-late : (r : Record) (p : Phase) → OneOf (2 ∷ 3 ∷ []) (tagOf the-type p) → startRule r p ≡ no 12
+unfolding startRule
+start-late r (Asked t) o = absurd (miss (2 ∷ 3 ∷ []) 0 tt o)
+start-late r (Sounding t) o = absurd (miss (2 ∷ 3 ∷ []) 1 tt o)
+start-late r (Reported t n) o = refl
+start-late r (Awaiting t) o = refl
+
+-- RSP outside Reported
+pub rsp-elsewhere : (r : Record) (p : Phase) → OneOf (0 ∷ 1 ∷ 3 ∷ []) (tagOf the-type p) → rspRule r p ≡ no 12
+unfolding rspRule
+rsp-elsewhere r (Asked t) o = refl
+rsp-elsewhere r (Sounding t) o = refl
+rsp-elsewhere r (Reported t n) o = absurd (miss (0 ∷ 1 ∷ 3 ∷ []) 2 tt o)
+rsp-elsewhere r (Awaiting t) o = refl
+
+-- a phase that is not Awaiting
+not-awaiting : (p : Phase) → OneOf (0 ∷ 1 ∷ 2 ∷ []) (tagOf the-type p) → isAwaiting p ≡ false
+unfolding isAwaiting
+not-awaiting (Asked t) o = refl
+not-awaiting (Sounding t) o = refl
+not-awaiting (Reported t n) o = refl
+not-awaiting (Awaiting t) o = absurd (miss (0 ∷ 1 ∷ 2 ∷ []) 3 tt o)
+
+-- ---- SOUND and PROFILE in Sounding
+
+-- two tests with one refusal are one test
+two-checks : {A : Type 0} (a b : Bool) (n : ℕ) (x : Checked A) → check a n (check b n x) ≡ check (a && b) n x
+two-checks true b n x = refl
+two-checks false b n x = refl
+
+module _ (k : ℕ) (r : Record) (t : ℕ) (e : r .phase ≡ Sounding t) where
+  -- SOUND in Sounding has one test
+  in-sounding : soundRule k r (r .phase) ≡ check (ltb k soundCount && not (isIn k (r .heard))) 13 (keeps (withHeard (marked k (r .heard)) r) [])
+  unfolding soundRule
+  in-sounding = ap (soundRule k r) e ∙ two-checks (ltb k soundCount) (not (isIn k (r .heard))) 13 _
+
+  -- a count that is new
+  pub sound-new : ltb k soundCount && not (isIn k (r .heard)) ≡ true → soundRule k r (r .phase) ≡ keeps (withHeard (marking k (r .heard)) r) []
+  sound-new h = in-sounding ∙ pass _ 13 _ h ∙ ap (λ (s : ℕ). keeps (withHeard s r) []) (sym (new-marking k (r .heard) h))
+
+  -- a count that is too high, or heard already
+  pub sound-known : ltb k soundCount && not (isIn k (r .heard)) ≡ false → soundRule k r (r .phase) ≡ no 13
+  sound-known h = in-sounding ∙ fail _ 13 _ h
+
+module _ (vs : List ℕ) (r : Record) (t : ℕ) (e : r .phase ≡ Sounding t) where
+  -- a report does not depend on the phase
+  report-phase : (p : Phase) (x : Record) → reportOf (inPhase p x) ≡ reportOf x
+  unfolding reportOf inPhase
+  report-phase p x = refl
+
+  -- one more is counted
+  count-is : (n : Record) → n ≡ counted vs r → n .profiles ≡ r .profiles + 1
+  unfolding counted
+  count-is n q = ap (λ (x : Record). x .profiles) q
+
+  -- the last profile
+  pub profile-last : (n : Record) → n ≡ counted vs r → n .profiles ≡ soundCount
+      → profileRule vs r (r .phase) ≡ keeps (reported retryCount (counted vs r)) (reportOf (reported retryCount (counted vs r)) ∷ [])
+  unfolding profileRule
+  profile-last n q h =
+      ap (profileRule vs r) e
+      ∙ rw (eq-eqb (r .profiles + 1) soundCount (sym (count-is n q) ∙ h), report-phase _ (counted vs r))
+
+  -- a profile before the last
+  pub profile-more : (n : Record) → n ≡ counted vs r → (n .profiles ≡ soundCount → ⊥) → profileRule vs r (r .phase) ≡ keeps (counted vs r) []
+  unfolding profileRule
+  profile-more n q h =
+      ap (profileRule vs r) e
+      ∙ rw (ne-eqb (r .profiles + 1) soundCount (λ (z : r .profiles + 1 ≡ soundCount). h (count-is n q ∙ z)))
+
+-- ---- the run
+
+module _ (run own : RunId) where
+  -- the record's run
+  pub run-same : run .0 ≡ own .0 → sameRun run own ≡ true
+  unfolding sameRun
+  run-same h = eq-eqb (run .0) (own .0) h
+
+  -- another run
+  pub run-other : (run .0 ≡ own .0 → ⊥) → sameRun run own ≡ false
+  unfolding sameRun
+  run-other h = ne-eqb (run .0) (own .0) h
+
+-- a message of the record's run
+pub of-run : {A : Type 0} (run : RunId) (r : Record) (x : Checked A) → run .0 ≡ r .run .0 → x ≡ check (sameRun run (r .run)) 11 x
+of-run run r x h = sym (pass (sameRun run (r .run)) 11 x (run-same run (r .run) h))
+
+-- a message of another run
+pub of-other : {A : Type 0} (run : RunId) (r : Record) (x : Checked A) → (run .0 ≡ r .run .0 → ⊥) → check (sameRun run (r .run)) 11 x ≡ no 11
+of-other run r x h = fail (sameRun run (r .run)) 11 x (run-other run (r .run) h)
+
+-- MATCH.REQ at a record
+module _ (run : RunId) (r : Record) where
+  -- of another run
+  pub match-other : (run .0 ≡ r .run .0 → ⊥) → no 11 ≡ matchRule run (r ∷ [])
+  unfolding matchRule
+  match-other h = sym (of-other run r _ h)
+
+  -- of the record's run: by the phase
+  match-phase : (b : Bool) → run .0 ≡ r .run .0 → isAwaiting (r .phase) ≡ b → check b 12 (yes tt) ≡ matchRule run (r ∷ [])
+  unfolding matchRule
+  match-phase b h e = ap (λ (x : Bool). check x 12 (yes tt)) (sym e) ∙ of-run run r _ h
+
+  -- before Awaiting
+  pub match-early : run .0 ≡ r .run .0 → OneOf (0 ∷ 1 ∷ 2 ∷ []) (tagOf the-type (r .phase)) → no 12 ≡ matchRule run (r ∷ [])
+  match-early h o = match-phase false h (not-awaiting (r .phase) o)
+
+  -- in Awaiting
+  pub match-due : (t : ℕ) → run .0 ≡ r .run .0 → r .phase ≡ Awaiting t → yes tt ≡ matchRule run (r ∷ [])
+  unfolding isAwaiting
+  match-due t h e = match-phase true h (ap isAwaiting e)

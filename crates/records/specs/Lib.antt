@@ -1,0 +1,4 @@
+pub mod Heard
+pub mod Requests
+pub mod Places
+pub mod Timers

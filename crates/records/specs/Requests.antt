@@ -1,0 +1,42 @@
+-- What the code's answers at a record say in the rules' words.
+use mathlib.Core.Path.{_≡_}
+use mathlib.Core.List.{[], _∷_}
+use Rattle.messages.specs.Answers.{numberOf}
+use Rattle.messages.specs.Reading.{Checked, no, yes}
+use Rattle.rules.specs.declared.Record.{Record}
+use Rattle.rules.specs.Frames.{Kept, keeps, startRule, soundRule, rspRule}
+use Rattle.rules.specs.Replies.{reportOf}
+use Rattle.records.specs.declared.requests.Effect.{Effect}
+use Rattle.records.specs.declared.requests.Effect.the-variants as effect
+use Rattle.records.specs.declared.requests.Kept as code
+use Rattle.records.specs.declared.requests.RunMessage.{RunMessage}
+use Rattle.records.specs.declared.requests.RunMessage.the-variants.{Start, Sound, Rsp}
+use Rattle.records.specs.declared.requests.Verdict.{Verdict}
+use Rattle.records.specs.declared.requests.Verdict.the-variants as verdict
+
+-- what an effect says of the record r that it comes with
+abbrev pub effectOf : Record → Effect → Checked Kept
+effectOf r (effect.Refused x) = no (numberOf x)
+effectOf r effect.NoReply = keeps r []
+effectOf r effect.Report = keeps r (reportOf r ∷ [])
+
+-- the record after a message: a refusal leaves it as it was
+abbrev pub recordAfter : Record → Checked Kept → Record
+recordAfter r (no n) = r
+recordAfter r (yes k) = k .kept
+
+-- the whole promise of a message at the record r, by its rule
+pub record Keeps (r : Record) (rule : Checked Kept) (k : code.Kept) : Type 0 where
+  pub kept : k .kept ≡ recordAfter r rule
+  pub effect : effectOf (k .kept) (k .effect) ≡ rule
+
+-- START, SOUND and RSP at a record
+abbrev pub runRule : RunMessage → Record → Checked Kept
+runRule Start r = startRule r (r .phase)
+runRule (Sound k) r = soundRule k r (r .phase)
+runRule Rsp r = rspRule r (r .phase)
+
+-- what a verdict says
+abbrev pub verdictOf : Verdict → Checked (Unit {0})
+verdictOf (verdict.Refused x) = no (numberOf x)
+verdictOf verdict.Accepted = yes tt

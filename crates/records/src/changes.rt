@@ -1,0 +1,88 @@
+// A record written anew: a fresh one, or with another owner, phase or set of sound counts.
+use messages::CarAddress;
+use messages::GROUPS;
+use messages::RunId;
+use rules::ASKED_TIME;
+use rules::Phase;
+use rules::Record;
+ghost use mathlib.Core.Path.{_≡_};
+ghost use Rattle.rules.specs.Records as defined;
+ghost use Rattle.rules.specs.Records.{noSums, inPhase, withHeard};
+
+// Sums of no profile.
+fn no_sums() -> [u16; GROUPS]
+    ensures { λ r. ⌜ r ≡ noSums ⌝ }
+{
+    [0; GROUPS]
+}
+
+// PARM.REQ's record: a new run of the car, with nothing heard and nothing counted.
+pub fn fresh(car: CarAddress, run: RunId) -> Record
+    ensures { λ r. ⌜ r ≡ defined.fresh car run ⌝ }
+{
+    let sums = no_sums();
+    Record {
+        car: car,
+        run: run,
+        held: true,
+        phase: Phase::Asked(ASKED_TIME),
+        heard: 0,
+        profiles: 0,
+        sums: sums,
+    }
+}
+
+// The record as the car's own, and held.
+pub fn owned(car: CarAddress, r: Record) -> Record
+    ensures { λ x. ⌜ x ≡ defined.owned car r ⌝ }
+{
+    let run = r.run;
+    let phase = r.phase;
+    let sums = r.sums;
+    Record {
+        car: car,
+        run: run,
+        held: true,
+        phase: phase,
+        heard: r.heard,
+        profiles: r.profiles,
+        sums: sums,
+    }
+}
+
+// The record in another phase.
+pub fn in_phase(r: Record, phase: Phase) -> Record
+    ensures { λ x. ⌜ x ≡ inPhase phase r ⌝ }
+{
+    let car = r.car;
+    let run = r.run;
+    let sums = r.sums;
+    Record {
+        car: car,
+        run: run,
+        held: r.held,
+        phase: phase,
+        heard: r.heard,
+        profiles: r.profiles,
+        sums: sums,
+    }
+}
+
+// The record with another set of sound counts.
+pub fn with_heard(r: Record, heard: u16) -> Record
+    ensures { λ x. ⌜ x ≡ withHeard heard r ⌝ }
+{
+    let car = r.car;
+    let run = r.run;
+    let phase = r.phase;
+    let sums = r.sums;
+    Record {
+        car: car,
+        run: run,
+        held: r.held,
+        phase: phase,
+        heard: heard,
+        profiles: r.profiles,
+        sums: sums,
+    }
+}

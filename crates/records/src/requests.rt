@@ -1,0 +1,177 @@
+// What each message does at its car's record.
+use crate::changes;
+use crate::heard;
+use crate::profiles;
+use messages::GroupValues;
+use messages::Refusal;
+use messages::RunId;
+use rules::AWAITING_TIME;
+use rules::Phase;
+use rules::REPORTED_TIME;
+use rules::RETRIES;
+use rules::Record;
+use rules::SOUNDING_TIME;
+use rules::SOUNDS;
+ghost use mathlib.Core.Path.{_≡_};
+ghost use mathlib.Core.List.{[], _∷_};
+ghost use Rattle.rules.specs.Frames.{startRule, soundRule, profileRule, rspRule, matchRule, atRun};
+ghost use Rattle.rules.specs.Invariant.{GoodRecord};
+ghost use Rattle.records.specs.Requests.{Keeps, runRule, verdictOf};
+
+// What follows a message at a record: a refusal, no reply, or the report of the record.
+pub enum Effect {
+    Refused(Refusal),
+    NoReply,
+    Report,
+}
+
+// The record after a message, unchanged where it is refused, and what follows.
+pub struct Kept {
+    pub kept: Record,
+    pub effect: Effect,
+}
+
+// The messages that name the run of a record: START, SOUND with its count, RSP.
+pub enum RunMessage {
+    Start,
+    Sound(u8),
+    Rsp,
+}
+
+// Whether a message is accepted.
+pub enum Verdict {
+    Refused(Refusal),
+    Accepted,
+}
+
+// START: Asked becomes Sounding; in Sounding nothing changes.
+pub fn start(r: Record) -> Kept
+    ensures { λ k. ⌜ Keeps r (startRule r (r .phase)) k ⌝ }
+{
+    let phase = r.phase;
+    match phase {
+        Phase::Asked(_) => Kept {
+            kept: changes::in_phase(r, Phase::Sounding(SOUNDING_TIME)),
+            effect: Effect::NoReply,
+        },
+        Phase::Sounding(_) => Kept {
+            kept: r,
+            effect: Effect::NoReply,
+        },
+        _ => Kept {
+            kept: r,
+            effect: Effect::Refused(Refusal::WrongPhase),
+        },
+    }
+}
+
+// SOUND in Sounding: its count is marked heard.
+pub fn sound(r: Record, count: u8) -> Kept
+    ensures { λ k. ⌜ Keeps r (soundRule count r (r .phase)) k ⌝ }
+{
+    let phase = r.phase;
+    let Phase::Sounding(_) = phase else {
+        return Kept {
+            kept: r,
+            effect: Effect::Refused(Refusal::WrongPhase),
+        };
+    };
+    let set = r.heard;
+    if (count < SOUNDS) & !heard::is_heard(set, count) {
+        Kept {
+            kept: changes::with_heard(r, heard::mark(set, count)),
+            effect: Effect::NoReply,
+        }
+    } else {
+        Kept {
+            kept: r,
+            effect: Effect::Refused(Refusal::BadSoundCount),
+        }
+    }
+}
+
+// PROFILE in Sounding: its values are added; the last one closes Sounding with a report.
+pub fn profile(r: Record, values: GroupValues) -> Kept
+    requires { ⌜ GoodRecord r ⌝ }
+    ensures { λ k. ⌜ Keeps r (profileRule values r (r .phase)) k ⌝ }
+{
+    let phase = r.phase;
+    let Phase::Sounding(_) = phase else {
+        return Kept {
+            kept: r,
+            effect: Effect::Refused(Refusal::WrongPhase),
+        };
+    };
+    let more = profiles::counted(r, values);
+    if more.profiles == SOUNDS {
+        let closed = Phase::Reported {
+            left: REPORTED_TIME,
+            retries: RETRIES,
+        };
+        Kept {
+            kept: changes::in_phase(more, closed),
+            effect: Effect::Report,
+        }
+    } else {
+        Kept {
+            kept: more,
+            effect: Effect::NoReply,
+        }
+    }
+}
+
+// RSP: Reported becomes Awaiting.
+pub fn rsp(r: Record) -> Kept
+    ensures { λ k. ⌜ Keeps r (rspRule r (r .phase)) k ⌝ }
+{
+    let phase = r.phase;
+    let Phase::Reported {
+        left: _,
+        retries: _,
+    } = phase
+    else {
+        return Kept {
+            kept: r,
+            effect: Effect::Refused(Refusal::WrongPhase),
+        };
+    };
+    Kept {
+        kept: changes::in_phase(r, Phase::Awaiting(AWAITING_TIME)),
+        effect: Effect::NoReply,
+    }
+}
+
+// START, SOUND or RSP of a run at the car's record, which may be of another run.
+pub fn at_run(r: Record, run: RunId, message: RunMessage) -> Kept
+    ensures { λ k. ⌜ Keeps r (atRun run (r ∷ []) (runRule message)) k ⌝ }
+{
+    let own = r.run;
+    if run.0 == own.0 {
+        match message {
+            RunMessage::Start => start(r),
+            RunMessage::Sound(count) => sound(r, count),
+            RunMessage::Rsp => rsp(r),
+        }
+    } else {
+        Kept {
+            kept: r,
+            effect: Effect::Refused(Refusal::NoRecord),
+        }
+    }
+}
+
+// MATCH.REQ of a run at the car's record: accepted in Awaiting.
+pub fn match_req(r: Record, run: RunId) -> Verdict
+    ensures { λ v. ⌜ verdictOf v ≡ matchRule run (r ∷ []) ⌝ }
+{
+    let own = r.run;
+    if run.0 == own.0 {
+        let phase = r.phase;
+        let Phase::Awaiting(_) = phase else {
+            return Verdict::Refused(Refusal::WrongPhase);
+        };
+        Verdict::Accepted
+    } else {
+        Verdict::Refused(Refusal::NoRecord)
+    }
+}

@@ -1,0 +1,190 @@
+// What a tick does to one record.
+use rules::Phase;
+use rules::REPORTED_TIME;
+use rules::RETRIES;
+use rules::Record;
+ghost use mathlib.Core.Path.{_≡_};
+ghost use mathlib.Core.Bool.{cond};
+ghost use Prim.Native.Nat.{_-_};
+ghost use lib.Dec.{eqb};
+ghost use Rattle.rules.specs.Constants.{retryCount};
+ghost use Rattle.rules.specs.Records as records;
+ghost use Rattle.rules.specs.Records.{inPhase, owned};
+ghost use Rattle.rules.specs.Ticks as ticks;
+ghost use Rattle.rules.specs.Ticks.{nowFree, tickPhase};
+ghost use Rattle.records.specs.Timers.{afterTick, afterHeld};
+
+// A record after a tick, and whether it reports.
+pub struct AfterTick {
+    pub after: Record,
+    pub reports: bool,
+}
+
+// A record after so many milliseconds: a free one stays as it is.
+pub fn tick_record(r: Record, elapsed: u32) -> AfterTick
+    ensures { λ t. ⌜ t ≡ afterTick elapsed r ⌝ }
+{
+    if r.held {
+        tick_held(r, elapsed)
+    } else {
+        AfterTick {
+            after: r,
+            reports: false,
+        }
+    }
+}
+
+// A held record: its phase's time fires where nothing of it is left, and runs down else.
+fn tick_held(r: Record, elapsed: u32) -> AfterTick
+    ensures { λ t. ⌜ t ≡ afterHeld r (tickPhase elapsed r (r .phase)) ⌝ }
+{
+    let phase = r.phase;
+    match phase {
+        Phase::Asked(time) => {
+            let left = left_after(time, elapsed);
+            if left == 0 {
+                free(r)
+            } else {
+                wait(r, Phase::Asked(left))
+            }
+        }
+        Phase::Sounding(time) => {
+            let left = left_after(time, elapsed);
+            if left == 0 {
+                first_report(r)
+            } else {
+                wait(r, Phase::Sounding(left))
+            }
+        }
+        Phase::Reported {
+            left: time,
+            retries,
+        } => {
+            let left = left_after(time, elapsed);
+            if left == 0 {
+                next_report(r, retries)
+            } else {
+                wait(
+                    r,
+                    Phase::Reported {
+                        left: left,
+                        retries: retries,
+                    },
+                )
+            }
+        }
+        Phase::Awaiting(time) => {
+            let left = left_after(time, elapsed);
+            if left == 0 {
+                free(r)
+            } else {
+                wait(r, Phase::Awaiting(left))
+            }
+        }
+    }
+}
+
+// What is left of a time after so many milliseconds: the excess is dropped.
+pub fn left_after(time: u32, elapsed: u32) -> u32
+    ensures { λ left. ⌜ left ≡ time - elapsed ⌝ }
+{
+    if time <= elapsed { 0 } else { time - elapsed }
+}
+
+// Sounding's time has fired: freed if no profile is counted, else the report.
+fn first_report(r: Record) -> AfterTick
+    ensures { λ t. ⌜ t ≡ afterHeld r (cond (eqb (r .profiles) 0) nowFree (ticks.reports retryCount r)) ⌝ }
+{
+    if r.profiles == 0 {
+        free(r)
+    } else {
+        report(r, RETRIES)
+    }
+}
+
+// Reported's time has fired: freed if no retry is left, else the report again.
+fn next_report(r: Record, retries: u8) -> AfterTick
+    ensures { λ t. ⌜ t ≡ afterHeld r (cond (eqb retries 0) nowFree (ticks.reports (retries - 1) r)) ⌝ }
+{
+    if retries == 0 {
+        free(r)
+    } else {
+        report(r, retries - 1)
+    }
+}
+
+// The record freed, with no report.
+fn free(r: Record) -> AfterTick
+    ensures { λ t. ⌜ t ≡ afterHeld r nowFree ⌝ }
+{
+    let after = freed(r);
+    AfterTick {
+        after: after,
+        reports: false,
+    }
+}
+
+// The record in a phase, with no report.
+fn wait(r: Record, phase: Phase) -> AfterTick
+    ensures { λ t. ⌜ t ≡ afterHeld r (ticks.waits phase r) ⌝ }
+{
+    let after = held_in(r, phase);
+    AfterTick {
+        after: after,
+        reports: false,
+    }
+}
+
+// The record reported, with so many retries left.
+fn report(r: Record, retries: u8) -> AfterTick
+    ensures { λ t. ⌜ t ≡ afterHeld r (ticks.reports retries r) ⌝ }
+{
+    let after = held_in(
+        r,
+        Phase::Reported {
+            left: REPORTED_TIME,
+            retries: retries,
+        },
+    );
+    AfterTick {
+        after: after,
+        reports: true,
+    }
+}
+
+// The record with no holder.
+pub fn freed(r: Record) -> Record
+    ensures { λ n. ⌜ n ≡ records.freed r ⌝ }
+{
+    let car = r.car;
+    let run = r.run;
+    let phase = r.phase;
+    let sums = r.sums;
+    Record {
+        car: car,
+        run: run,
+        held: false,
+        phase: phase,
+        heard: r.heard,
+        profiles: r.profiles,
+        sums: sums,
+    }
+}
+
+// The record held by its car, in a phase.
+fn held_in(r: Record, phase: Phase) -> Record
+    ensures { λ n. ⌜ n ≡ owned (r .car) (inPhase phase r) ⌝ }
+{
+    let car = r.car;
+    let run = r.run;
+    let sums = r.sums;
+    Record {
+        car: car,
+        run: run,
+        held: true,
+        phase: phase,
+        heard: r.heard,
+        profiles: r.profiles,
+        sums: sums,
+    }
+}

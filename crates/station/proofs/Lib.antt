@@ -1,0 +1,14 @@
+pub mod StepLaws
+pub mod SpliceLaws
+pub mod JudgeLaws
+pub mod SendLaws
+pub mod ComesLaws
+pub mod ParmLaws
+pub mod OwnLaws
+pub mod MatchLaws
+pub mod SendableLaws
+pub mod EventLaws
+pub mod ReportLaws
+pub mod TickLoopLaws
+pub mod HeldLaws
+pub mod TickLaws

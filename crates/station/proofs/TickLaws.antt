@@ -1,0 +1,157 @@
+-- The tick call: the order of its refusals, and what it comes to in each state.
+use Prim.Native.Nat.{ℕ, zero, suc, _*_, _-_, _≤_, _<_}
+use mathlib.Core.Path.{_≡_, refl, sym, ap, ap₂, _∙_, subst}
+use mathlib.Core.Bool.{Bool, true, false, _&&_}
+use mathlib.Core.List.{List, [], map}
+use native.Mathlib.Omega.{arith}
+use borrow.Author.Tests.{le-leb, lt-leb}
+use lib.Dec.{eqb, leb, eqb·suc-zero}
+use lib.ListN.{length, length-map}
+use Rattle.messages.specs.declared.CarAddress.{CarAddress}
+use Rattle.messages.specs.declared.RunId.{RunId}
+use Rattle.messages.specs.Reading.{Checked, no, yes}
+use Rattle.messages.proofs.CheckLaws.{pass, fail}
+use Rattle.rules.specs.declared.Indication.{Indication}
+use Rattle.rules.specs.declared.Indication.the-variants.{Nothing, NoLink}
+use Rattle.rules.specs.declared.Record.{Record}
+use Rattle.rules.specs.declared.State.{State}
+use Rattle.rules.specs.declared.State.the-variants.{Unmatched, Matching, Joining}
+use Rattle.rules.specs.declared.Station.{Station}
+use Rattle.rules.specs.declared.Stepped.{Stepped}
+use Rattle.rules.specs.Constants.{recordCount, longestGap, leastOutput}
+use Rattle.rules.specs.Calls.{tick}
+use Rattle.rules.specs.Outcomes.{andThen}
+use Rattle.rules.specs.Records.{noneHeld}
+use Rattle.rules.specs.Stations.{Done, shared, inner, done}
+use Rattle.rules.specs.Ticks.{elapsed, tickElapsed, allReports, admissionDone, joiningDone, tickDone}
+use Rattle.rules.specs.Rules.{rule, takesReading, sharedStep}
+use Rattle.rules.specs.Invariant.{Invariant}
+use Rattle.rules.proofs.Logic.{clash}
+use Rattle.station.specs.declared.all_records.TickedRecords.{TickedRecords}
+use Rattle.station.specs.Steps.{doneAs, sharedAs, anew, Gives}
+use Rattle.station.specs.Reports.{reportSize, Ready, Ticks}
+use Rattle.station.proofs.StepLaws.{framed, no-frames, gives-as}
+
+-- what owning an array of structs tells of its length
+pub length-mapped : {A B : Type 0} (f : A → B) (l : List A) (n : ℕ) → length (map f l) ≡ n → length l ≡ n
+length-mapped f l n e = sym (length-map l f) ∙ e
+
+-- ---- the order of the refusals
+
+module _ (s : Station) (t room : ℕ) (g : s .config .good ≡ true) where
+  -- what follows the elapsed time
+  follows : Checked ℕ → Checked Done
+  follows w = andThen w (λ (e : ℕ). yes (tickDone (s .config) e (s .state) (s .records)))
+
+  -- 15
+  pub tick-short : room < leastOutput → rule (shared s) (inner s) (tick t room) ≡ no 15
+  unfolding rule tickElapsed follows
+  tick-short h = ap follows (pass (s .config .good) 16 _ g ∙ fail (leb leastOutput room) 15 _ (lt-leb leastOutput room h))
+
+  module _ (r : leastOutput ≤ room) (e : ℕ) (ee : e ≡ elapsed t (s .clock)) where
+    -- 14
+    pub tick-gap : longestGap < e → rule (shared s) (inner s) (tick t room) ≡ no 14
+    unfolding rule tickElapsed follows
+    tick-gap h =
+        let k : leb (elapsed t (s .clock)) longestGap ≡ false = ap (λ (n : ℕ). leb n longestGap) (sym ee) ∙ lt-leb e longestGap h in
+        ap follows (pass (s .config .good) 16 _ g ∙ pass (leb leastOutput room) 15 _ (le-leb leastOutput room r) ∙ fail (leb (elapsed t (s .clock)) longestGap) 14 _ k)
+
+    -- the elapsed time, where none of the three refuses
+    taken : e ≤ longestGap → tickElapsed (shared s) t room ≡ yes e
+    unfolding tickElapsed
+    taken h =
+        let k : leb (elapsed t (s .clock)) longestGap ≡ true = ap (λ (n : ℕ). leb n longestGap) (sym ee) ∙ le-leb e longestGap h in
+        pass (s .config .good) 16 _ g ∙ pass (leb leastOutput room) 15 _ (le-leb leastOutput room r) ∙ pass (leb (elapsed t (s .clock)) longestGap) 14 _ k ∙ ap yes (sym ee)
+
+    -- then what the rule gives
+    pub tick-rule : e ≤ longestGap → rule (shared s) (inner s) (tick t room) ≡ yes (tickDone (s .config) e (s .state) (s .records))
+    unfolding rule follows
+    tick-rule h = ap follows (taken h)
+
+    -- and the reading is taken
+    pub tick-shared : e ≤ longestGap → sharedStep (shared s) (tick t room) ≡ sharedAs s (s .pilot) t
+    unfolding sharedStep takesReading
+    tick-shared h = ap (λ (w : Checked ℕ). takesReading w t (shared s)) (taken h)
+
+-- the station's records can be ticked
+pub tick-ready : (s : Station) (out : List ℕ) → Invariant s → s .config .good ≡ true → length (s .records) ≡ recordCount → leastOutput ≤ length out → Ready (s .config) (s .records) out
+tick-ready s out i g n h = record { address = i .config .address g; good = i .records; room = omega arith }
+
+-- ---- a state in which nothing is sent
+
+module _ (s : Station) (t e : ℕ) (r : Stepped) (out : List ℕ) where
+  -- the tick's result
+  abbrev Ticked : Type 0
+  Ticked = Gives (sharedAs s (s .pilot) t) (tickDone (s .config) e (s .state) (s .records)) out out r
+
+  -- the answer of a station in state st, which indicates x
+  abbrev Read : State → Indication → Type 0
+  Read st x = r ≡ doneAs (anew s (s .pilot) t st (s .records)) 0 0 x
+
+  -- the state as the code finds it, by what its rule gives
+  pub tick-reads : (was st : State) (x : Indication) → s .state ≡ was → tickDone (s .config) e was (s .records) ≡ done st (s .records) [] x → Read st x → Ticked
+  tick-reads was st x told q er =
+      gives-as _ _ _ _ out out r refl
+      (sym (ap (λ (y : State). tickDone (s .config) e y (s .records)) told ∙ q))
+      (no-frames s (s .pilot) t st (s .records) x _ r out refl er)
+
+  module _ (l : ℕ) (c : CarAddress) (run : RunId) (told : s .state ≡ Joining l c run) (left : ℕ) (el : left ≡ l - e) where
+    -- Joining's time fires
+    pub joining-fires : left ≡ 0 → Read Unmatched NoLink → Ticked
+    unfolding tickDone joiningDone
+    joining-fires z q = tick-reads (Joining l c run) Unmatched NoLink told (ap (λ (b : Bool). joiningDone b (l - e) c run (s .records)) (le-leb l e (omega arith))) q
+
+    -- it runs down
+    pub joining-runs : (left ≡ 0 → ⊥) → Read (Joining left c run) Nothing → Ticked
+    unfolding tickDone joiningDone
+    joining-runs z q =
+        tick-reads (Joining l c run) (Joining left c run) Nothing told
+        (ap (λ (b : Bool). joiningDone b (l - e) c run (s .records)) (lt-leb l e (omega arith)) ∙ ap (λ (n : ℕ). done (Joining n c run) (s .records) [] Nothing) (sym el)) q
+
+-- ---- Matching
+
+-- the state that the code finds is the station's
+pub tick-matching : (s : Station) (t e a : ℕ) (entry exit : List ℕ) (r : Stepped) → s .state ≡ Matching a
+    → Gives (sharedAs s (s .pilot) t) (tickDone (s .config) e (Matching a) (s .records)) entry exit r
+    → Gives (sharedAs s (s .pilot) t) (tickDone (s .config) e (s .state) (s .records)) entry exit r
+tick-matching s t e a entry exit r told g = subst (λ (y : State). Gives (sharedAs s (s .pilot) t) (tickDone (s .config) e y (s .records)) entry exit r) (sym told) g
+
+-- admission, by whether it is closed with no record held
+admission-over : (a : ℕ) (b : Bool) (rs : List Record) (fs : List (List ℕ)) → eqb a 0 && b ≡ true → admissionDone a b rs fs ≡ done Unmatched rs fs NoLink
+unfolding admissionDone
+admission-over zero true rs fs h = refl
+admission-over zero false rs fs h = clash false h refl
+admission-over (suc a) b rs fs h = clash (eqb (suc a) 0 && b) h (ap (λ (x : Bool). x && b) (eqb·suc-zero a))
+
+-- and else
+admission-held : (a : ℕ) (b : Bool) (rs : List Record) (fs : List (List ℕ)) → eqb a 0 && b ≡ false → admissionDone a b rs fs ≡ done (Matching a) rs fs Nothing
+unfolding admissionDone
+admission-held zero true rs fs h = clash true refl h
+admission-held zero false rs fs h = refl
+admission-held (suc a) b rs fs h = refl
+
+module _ (s : Station) (t e a : ℕ) (k : TickedRecords) (entry exit : List ℕ) (w : Ticks (s .config) e (s .records) entry exit k)
+    (left : ℕ) (el : left ≡ a - e) (none : Bool) (en : none ≡ noneHeld (k .records)) (n : Station) (r : Stepped) where
+  -- the answer of a station in state st, which indicates x, with the reports
+  abbrev Sent : State → Indication → Type 0
+  Sent st x = (n ≡ anew s (s .pilot) t st (k .records)) × (r ≡ doneAs n (k .reports) (reportSize * k .reports) x)
+
+  -- by what admission comes to
+  sends : (st : State) (x : Indication) → admissionDone left none (k .records) (allReports (s .config) e (s .records)) ≡ done st (k .records) (allReports (s .config) e (s .records)) x
+      → Sent st x → Gives (sharedAs s (s .pilot) t) (tickDone (s .config) e (Matching a) (s .records)) entry exit r
+  unfolding tickDone
+  sends st x q p =
+      let fs : List (List ℕ) = allReports (s .config) e (s .records) in
+      gives-as _ _ _ _ entry exit r refl
+      (sym q
+      ∙ ap₂ (λ (m : ℕ) (b : Bool). admissionDone m b (k .records) fs) el en
+      ∙ ap (λ (rs : List Record). admissionDone (a - e) (noneHeld rs) rs fs) (w .records))
+      (framed s (s .pilot) t st (k .records) fs x n r (k .reports) (reportSize * k .reports) entry exit (p .0) (p .1) (w .count) (w .size) (w .octets))
+
+  -- admission is closed, and no record is held
+  pub admission-ends : eqb left 0 && none ≡ true → Sent Unmatched NoLink → Gives (sharedAs s (s .pilot) t) (tickDone (s .config) e (Matching a) (s .records)) entry exit r
+  admission-ends h p = sends Unmatched NoLink (admission-over left none (k .records) _ h) p
+
+  -- it is open, or a record is held
+  pub admission-stays : eqb left 0 && none ≡ false → Sent (Matching left) Nothing → Gives (sharedAs s (s .pilot) t) (tickDone (s .config) e (Matching a) (s .records)) entry exit r
+  admission-stays h p = sends (Matching left) Nothing (admission-held left none (k .records) _ h) p

@@ -1,0 +1,12 @@
+-- `station::reply::no_values` meets its contract: zeros.
+use Rattle.messages.specs.Reading.{noGroups}
+use mathlib.Core.Path.{refl}
+use Rattle.station.proofs.reply.no_values.Statement.{statement}
+use Rattle.station.proofs.reply.no_values.Tie as tie
+
+returns : tie.Need-returns
+unfolding noGroups
+returns c = refl
+
+pub no-values-spec : {M : Type 1} → statement M
+no-values-spec = tie.close (tie.spec returns)

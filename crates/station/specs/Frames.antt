@@ -1,0 +1,72 @@
+-- What the parts of the frame call need and give.
+use Prim.Native.Nat.{ℕ, _≤_}
+use mathlib.Core.Path.{_≡_}
+use mathlib.Core.Bool.{true}
+use mathlib.Core.List.{List, [], _∷_, map}
+use lib.ListN.{length, set}
+use Rattle.messages.specs.declared.CarAddress.{CarAddress}
+use Rattle.messages.specs.declared.RunId.{RunId}
+use Rattle.messages.specs.Octets.{splice}
+use Rattle.messages.specs.Reading.{Checked, no, yes}
+use Rattle.messages.specs.Table.{isUnicast, writtenSize, Message}
+use Rattle.messages.specs.Writing.{isAddressed, isLimited}
+use Rattle.rules.specs.declared.Indication.the-variants.{Nothing}
+use Rattle.rules.specs.declared.Record.{Record}
+use Rattle.rules.specs.declared.State.the-variants.{Joining}
+use Rattle.rules.specs.declared.Station.{Station}
+use Rattle.rules.specs.declared.Stepped.{Stepped}
+use Rattle.rules.specs.Constants.{joiningTime, leastOutput}
+use Rattle.rules.specs.Outcomes.{framesOf, joined, andThen}
+use Rattle.rules.specs.Stations.{Done, shared, inner, build, done, next, outcomeOf}
+use Rattle.rules.specs.Records.{mine, owned, freed}
+use Rattle.rules.specs.Replies.{Reply, framesTo}
+use Rattle.rules.specs.Frames.{Kept, profileRule, atRun, matchRule, confirmed}
+use Rattle.rules.specs.Invariant.{GoodRecord, Invariant}
+use Rattle.rules.specs.Answers.{answerOf, summary}
+use Rattle.records.specs.Requests.{runRule}
+use Rattle.station.specs.declared.judge.OwnMessage.{OwnMessage}
+use Rattle.station.specs.declared.judge.OwnMessage.the-variants.{Run, Profile}
+
+-- a message that an output of n octets takes
+pub record Writable (m : Message) (n : ℕ) : Type 0 where
+  pub addressed : isAddressed m ≡ true
+  pub limited : isLimited m ≡ true
+  pub room : writtenSize (m .kind) ≤ n
+
+-- a reply to car c can be sent
+pub record Ready (s : Station) (c : CarAddress) (out : List ℕ) : Type 0 where
+  pub good : s .config .good ≡ true
+  pub kept : Invariant s
+  pub car : isUnicast (c .0) ≡ true
+  pub room : leastOutput ≤ length out
+
+-- r and the output from entry to exit are what a frame's rule comes to, refused or accepted
+pub record Comes (s : Station) (x : Checked Done) (entry exit : List ℕ) (r : Stepped) : Type 0 where
+  pub station : r .station ≡ build (shared s) (next (inner s) x)
+  pub answer : answerOf (r .answer) ≡ summary (outcomeOf x)
+  pub octets : exit ≡ splice 0 (joined (framesOf (outcomeOf x))) entry
+
+-- START, SOUND, RSP or PROFILE at a record, with the group values g beside it
+abbrev pub ownRule : OwnMessage → List ℕ → Record → Checked Kept
+ownRule (Run run m) g r = atRun run (r ∷ []) (runRule m)
+ownRule Profile g r = profileRule g r (r .phase)
+
+-- a report is of a record that has profiles
+abbrev pub Reports : Record → List Reply → Type 0
+Reports r [] = Unit {0}
+Reports r (t ∷ ts) = GoodRecord r × (1 ≤ r .profiles)
+
+-- what a message at a record leaves can be sent
+abbrev pub Sendable : Checked Kept → Type 0
+Sendable (no n) = Unit {0}
+Sendable (yes k) = Reports (k .kept) (k .replies)
+
+-- car c's record back at place i, and its replies
+abbrev pub settled : Station → ℕ → CarAddress → Checked Kept → Checked Done
+settled s i c x = andThen x (λ (k : Kept). yes (done (s .state) (set (s .records) i (owned c (k .kept))) (framesTo (s .config) c (k .replies)) Nothing))
+
+-- MATCH.REQ in Matching
+abbrev pub joinRule : Station → CarAddress → RunId → Checked Done
+joinRule s c run =
+    andThen (matchRule run (mine c (s .records)))
+    (λ (x : Unit {0}). yes (confirmed (s .config) (Joining joiningTime c run) (map freed (s .records)) c run))

@@ -1,0 +1,4 @@
+pub mod Steps
+pub mod Judge
+pub mod Frames
+pub mod Reports

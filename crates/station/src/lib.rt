@@ -1,0 +1,102 @@
+// A charging station's calls, by value: each gives the station afterwards and an answer.
+mod all_records;
+mod answers;
+mod events;
+mod frames;
+mod freeing;
+pub mod judge;
+mod reply;
+mod reports;
+mod ticks;
+
+use judge::Judged;
+use messages::Refusal;
+use rules::LEAST_OUTPUT;
+use rules::LONGEST_GAP;
+use rules::State;
+use rules::Station;
+use rules::Stepped;
+ghost use mathlib.Core.List.{[]};
+ghost use lib.ListN.{length};
+ghost use Rattle.rules.specs.Calls as calls;
+ghost use Rattle.rules.specs.Invariant.{Invariant};
+ghost use Rattle.rules.specs.Answers.{Answers};
+
+// A frame was received: its reply stands from the output's first octet.
+pub fn frame(station: Station, octets: &[u8], out: &mut [u8]) -> Stepped
+    requires { ⌜ Invariant station ⌝ }
+    ensures { λ r. ⌜ Answers station (calls.frame (now (octets .entry)) (length (now (out .entry)))) (now (out .entry)) (now (out .exit)) r ⌝ }
+{
+    let config = station.config;
+    let state = station.state;
+    let judged = judge::judge(config, state, octets, out.len());
+    match judged {
+        Judged::Refused(refusal) => answers::refused(station, refusal),
+        Judged::Taken { car, request } => frames::accept(station, car, request, octets, out),
+    }
+}
+
+// A tick: the clock reads so much. The reports stand back to back from the first octet of the output.
+pub fn tick(station: Station, reading: u32, out: &mut [u8]) -> Stepped
+    requires { ⌜ Invariant station ⌝ }
+    ensures { λ r. ⌜ Answers station (calls.tick reading (length (now (out .entry)))) (now (out .entry)) (now (out .exit)) r ⌝ }
+{
+    let config = station.config;
+    if !config.good {
+        return answers::refused(station, Refusal::BadConfiguration);
+    }
+    if out.len() < LEAST_OUTPUT {
+        return answers::refused(station, Refusal::OutputTooShort);
+    }
+    let elapsed = ticks::elapsed(reading, station.clock);
+    if LONGEST_GAP < elapsed {
+        return answers::refused(station, Refusal::TickGap);
+    }
+    ticks::run(station, reading, elapsed, out)
+}
+
+// The control pilot is at a state, at a clock reading.
+pub fn pilot(station: Station, pilot: rules::Pilot, reading: u32) -> Stepped
+    requires { ⌜ Invariant station ⌝ }
+    ensures { λ r. ⌜ Answers station (calls.pilot pilot reading) [] [] r ⌝ }
+{
+    let config = station.config;
+    if !config.good {
+        return answers::refused(station, Refusal::BadConfiguration);
+    }
+    events::change(station, pilot, reading)
+}
+
+// Matching is terminated.
+pub fn terminate(station: Station) -> Stepped
+    requires { ⌜ Invariant station ⌝ }
+    ensures { λ r. ⌜ Answers station calls.terminate [] [] r ⌝ }
+{
+    let config = station.config;
+    let pilot = station.pilot;
+    if !config.good {
+        return answers::refused(station, Refusal::BadConfiguration);
+    }
+    events::end(station, pilot, station.clock)
+}
+
+// The link to the car that joins is up.
+pub fn link_up(station: Station) -> Stepped
+    requires { ⌜ Invariant station ⌝ }
+    ensures { λ r. ⌜ Answers station calls.linkUp [] [] r ⌝ }
+{
+    let config = station.config;
+    let state = station.state;
+    if !config.good {
+        return answers::refused(station, Refusal::BadConfiguration);
+    }
+    let State::Joining {
+        left: _,
+        car: _,
+        run: _,
+    } = state
+    else {
+        return answers::refused(station, Refusal::WrongState);
+    };
+    events::linked(station)
+}

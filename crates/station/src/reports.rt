@@ -1,0 +1,27 @@
+// A record's report, written.
+use messages::Message;
+use records::report;
+use rules::Configuration;
+use rules::Record;
+ghost use Prim.Native.Nat.{_≤_};
+ghost use lib.ListN.{length};
+ghost use Rattle.rules.specs.Replies.{reportOf, frameTo};
+ghost use Rattle.station.specs.Reports.{reportSize, Reportable, Writes};
+
+// A record's report, from the first octet of the output.
+pub(crate) fn write_report(config: Configuration, r: Record, out: &mut [u8])
+    requires { ⌜ Reportable config r × (reportSize ≤ length (now out)) ⌝ }
+    ensures { λ _. ⌜ Writes (frameTo config (r .car) (reportOf r)) (now (out .entry)) (now (out .exit)) ⌝ }
+{
+    let station = config.address;
+    let car = r.car;
+    let run = r.run;
+    let values = report::values(r);
+    let message = Message::AttenCharInd {
+        station: station,
+        car: car,
+        run: run,
+        sounds: r.profiles,
+    };
+    messages::write(message, values, out);
+}

@@ -1,0 +1,89 @@
+// A tick in each state of a station that is well configured.
+use crate::all_records;
+use crate::answers;
+use records::timers;
+use rules::Indication;
+use rules::REPORT_OCTETS;
+use rules::State;
+use rules::Station;
+use rules::Stepped;
+ghost use mathlib.Core.Path.{_≡_};
+ghost use Rattle.rules.specs.Ticks as rule;
+ghost use Rattle.rules.specs.Ticks.{tickDone};
+ghost use Rattle.station.specs.Steps.{doneAs, sharedAs, anew, Gives};
+ghost use Rattle.station.specs.Reports.{Ready};
+
+// The time between two readings of a clock that wraps.
+pub(crate) fn elapsed(reading: u32, last: u32) -> u32
+    ensures { λ e. ⌜ e ≡ rule.elapsed reading last ⌝ }
+{
+    std::num::wrapping_sub_u32(reading, last)
+}
+
+// What so many milliseconds come to in the station's state.
+pub(crate) fn run(station: Station, reading: u32, elapsed: u32, out: &mut [u8]) -> Stepped
+    requires { ⌜ Ready (station .config) (station .records) (now out) ⌝ }
+    ensures { λ r. ⌜ Gives (sharedAs station (station .pilot) reading) (tickDone (station .config) elapsed (station .state) (station .records)) (now (out .entry)) (now (out .exit)) r ⌝ }
+{
+    let state = station.state;
+    match state {
+        State::Unmatched => read(station, reading, State::Unmatched, Indication::Nothing),
+        State::Matching(time) => matching(station, reading, elapsed, time, out),
+        State::Joining {
+            left: time,
+            car,
+            run,
+        } => {
+            let left = timers::left_after(time, elapsed);
+            if left == 0 {
+                read(station, reading, State::Unmatched, Indication::NoLink)
+            } else {
+                read(
+                    station,
+                    reading,
+                    State::Joining {
+                        left: left,
+                        car: car,
+                        run: run,
+                    },
+                    Indication::Nothing,
+                )
+            }
+        }
+        State::Matched => read(station, reading, State::Matched, Indication::Nothing),
+    }
+}
+
+// The reading taken, in a state, with nothing sent.
+fn read(station: Station, reading: u32, state: State, indication: Indication) -> Stepped
+    ensures { λ r. ⌜ r ≡ doneAs (anew station (station .pilot) reading state (station .records)) 0 0 indication ⌝ }
+{
+    let pilot = station.pilot;
+    let records = station.records;
+    let next = answers::anew(station, pilot, reading, state, records);
+    answers::without_frames(next, indication)
+}
+
+// Matching: each record's time, then admission's; closed with no record held, the station is Unmatched.
+fn matching(station: Station, reading: u32, elapsed: u32, time: u32, out: &mut [u8]) -> Stepped
+    requires { ⌜ Ready (station .config) (station .records) (now out) ⌝ }
+    ensures { λ r. ⌜ Gives (sharedAs station (station .pilot) reading) (tickDone (station .config) elapsed (State.Matching time) (station .records)) (now (out .entry)) (now (out .exit)) r ⌝ }
+{
+    let config = station.config;
+    let pilot = station.pilot;
+    let records = station.records;
+    let ticked = all_records::tick_all(records, elapsed, config, out);
+    let after = ticked.records;
+    let sent = ticked.reports;
+    let octets = REPORT_OCTETS * sent;
+    let frames = sent as u8;
+    let left = timers::left_after(time, elapsed);
+    let none = all_records::none_held(after);
+    if (left == 0) & none {
+        let next = answers::anew(station, pilot, reading, State::Unmatched, after);
+        answers::done(next, frames, octets, Indication::NoLink)
+    } else {
+        let next = answers::anew(station, pilot, reading, State::Matching(left), after);
+        answers::done(next, frames, octets, Indication::Nothing)
+    }
+}
