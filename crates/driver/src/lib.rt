@@ -13,6 +13,16 @@ ghost use Rattle.rules.specs.Rules.{soundsHeard};
 ghost use Rattle.rules.specs.Answers.{heardOf};
 ghost use Rattle.driver.specs.InPlace.{InPlace};
 
+// A frame was received: its reply stands from the output's first octet.
+pub fn frame(s: &mut Station, octets: &[u8], out: &mut [u8]) -> Answer
+    requires { ⌜ Invariant (now s) ⌝ }
+    ensures { λ r. ⌜ InPlace (now (s .entry)) (calls.frame (now (octets .entry)) (length (now (out .entry)))) (now (out .entry)) (now (out .exit)) (now (s .exit)) r ⌝ }
+{
+    let r = station::frame(*s, octets, out);
+    *s = r.station;
+    r.answer
+}
+
 // A tick: the clock reads so much. The reports stand back to back from the first octet of the output.
 pub fn tick(s: &mut Station, reading: u32, out: &mut [u8]) -> Answer
     requires { ⌜ Invariant (now s) ⌝ }
