@@ -2,11 +2,8 @@
 
 use crate::messages::{Body, Message};
 use crate::refusal;
-use crate::script::{take_number, take_octets};
-use std::io::{self, BufRead, BufReader, Read};
-
-/// One answer of an output: refusal, indication, octets.
-type Answer = (u32, u32, Vec<u8>);
+use crate::script::{take_number, Answer};
+use std::io::{self, BufReader, Read};
 
 /// Writes what was found in words: `Ok` if all is equal, else the first difference.
 pub fn compare(one: impl Read, other: impl Read) -> io::Result<Result<String, String>> {
@@ -17,7 +14,7 @@ pub fn compare(one: impl Read, other: impl Read) -> io::Result<Result<String, St
         return differ("configuring".into(), refused(a), refused(b));
     }
     for event in 1u64.. {
-        let (a, b) = (next_answer(&mut one)?, next_answer(&mut other)?);
+        let (a, b) = (Answer::take(&mut one)?, Answer::take(&mut other)?);
         if a != b {
             return differ(format!("event {event}"), words(&a), words(&b));
         }
@@ -28,14 +25,8 @@ pub fn compare(one: impl Read, other: impl Read) -> io::Result<Result<String, St
     Ok(Err("too many events".into()))
 }
 
-fn next_answer(output: &mut impl BufRead) -> io::Result<Option<Answer>> {
-    if output.fill_buf()?.is_empty() {
-        return Ok(None);
-    }
-    Ok(Some((take_number(output)?, take_number(output)?, take_octets(output)?)))
-}
-
-fn refused(number: u32) -> String {
+/// Accepted, or the refusal in words.
+pub fn refused(number: u32) -> String {
     match number {
         0 => "accepted".into(),
         _ => format!("refused {number} ({})", refusal::words(number)),
@@ -43,18 +34,22 @@ fn refused(number: u32) -> String {
 }
 
 fn words(answer: &Option<Answer>) -> String {
-    let Some((refusal, indication, octets)) = answer else { return "no answer".into() };
-    let indication = match indication {
-        0 => "no indication".into(),
-        1 => "no link".into(),
-        2 => "link established".into(),
-        other => format!("indication {other}"),
-    };
+    let Some(Answer { refusal, indication, octets }) = answer else { return "no answer".into() };
     let given = match <[u8; 4]>::try_from(&octets[..]) {
         Ok(number) => format!("the number {}", u32::from_le_bytes(number)),
         Err(_) => format!("{}: {}", frames(octets), hex(octets)),
     };
-    format!("{}, {indication}, {given}", refused(*refusal))
+    format!("{}, {}, {given}", refused(*refusal), indicated(*indication))
+}
+
+/// An indication in words.
+pub fn indicated(indication: u32) -> String {
+    match indication {
+        0 => "no indication".into(),
+        1 => "no link".into(),
+        2 => "link established".into(),
+        other => format!("indication {other}"),
+    }
 }
 
 fn hex(octets: &[u8]) -> String {

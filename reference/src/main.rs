@@ -13,14 +13,14 @@ mod station;
 mod tests;
 
 use count::Counts;
-use script::Script;
+use script::{Answer, Script};
 use station::Station;
 use std::ffi::OsString;
 use std::fs::File;
-use std::io::{self, BufWriter, Read, Write};
+use std::io::{self, BufReader, BufWriter, Read, Write};
 use std::process::ExitCode;
 
-const USAGE: &str = "usage: reference run | show | count (a script on standard input) \
+const USAGE: &str = "usage: reference run | show [REPLIES] | count (a script on standard input) \
                      | generate SEED EVENTS | demo | compare A B";
 
 fn main() -> ExitCode {
@@ -29,7 +29,10 @@ fn main() -> ExitCode {
     let (input, mut out) = (io::stdin().lock(), BufWriter::new(io::stdout().lock()));
     let done = match (&words[..], &arguments[..]) {
         (["run"], _) => run(input, &mut out),
-        (["show"], _) => show(input, &mut out),
+        (["show"], _) => show(input, None, &mut out),
+        (["show", ..], [_, replies]) => {
+            File::open(replies).and_then(|replies| show(input, Some(replies), &mut out))
+        }
         (["count"], _) => count(input, &mut out),
         (["demo"], _) => generate::demo(&mut out).map(|()| true),
         (["generate", seed, events], _) => match (seed.parse(), events.parse()) {
@@ -61,21 +64,36 @@ fn run(input: impl Read, out: &mut impl Write) -> io::Result<bool> {
             out.flush()?;
         }
         let Some(event) = script.next_event()? else { return Ok(true) };
-        script::write_outcome(out, &event.happen(&mut station))?;
+        Answer::from(event.happen(&mut station)).write(out)?;
     }
 }
 
-/// `show`: a readable line for each event.
-fn show(input: impl Read, out: &mut impl Write) -> io::Result<bool> {
+/// `show`: a readable line for each event; with the replies of another station where they are given, and equal to
+/// this one's.
+fn show(input: impl Read, replies: Option<File>, out: &mut impl Write) -> io::Result<bool> {
     let mut script = Script::open(input)?;
     let (mut station, answer) = Station::configure(script.config);
+    let mut replies = replies.map(BufReader::new);
+    if let Some(replies) = &mut replies {
+        script::take_number(replies)?;
+    }
     if answer.is_err() {
         writeln!(out, "bad configuration")?;
     }
     writeln!(out, "{}", show::HEADING)?;
     while let Some(event) = script.next_event()? {
-        let outcome = event.happen(&mut station);
-        writeln!(out, "{}", show::line(&event, &station, &outcome))?;
+        let own = Answer::from(event.happen(&mut station));
+        let given = match &mut replies {
+            Some(replies) => {
+                Answer::take(replies)?.ok_or_else(|| script::broken("no more replies"))?
+            }
+            None => own.clone(),
+        };
+        writeln!(out, "{}", show::line(&event, &station, &given))?;
+        if given != own {
+            writeln!(out, "differs: {}", show::line(&event, &station, &own))?;
+            return Ok(false);
+        }
     }
     Ok(true)
 }

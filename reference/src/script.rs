@@ -21,6 +21,45 @@ pub enum Event {
 /// An event's answer: its indication and the octets given back, or the refusal.
 pub type Outcome = Result<(Option<Indication>, Vec<u8>), Refusal>;
 
+/// An event's answer as the output has it.
+#[derive(Clone, Debug, PartialEq, Eq)]
+pub struct Answer {
+    /// The refusal's number, or 0.
+    pub refusal: u32,
+    /// 1 for "no link", 2 for "link established", else 0.
+    pub indication: u32,
+    /// The frames, or the number that a query gives.
+    pub octets: Vec<u8>,
+}
+
+impl From<Outcome> for Answer {
+    fn from(outcome: Outcome) -> Answer {
+        match outcome {
+            Ok((indication, octets)) => {
+                Answer { refusal: 0, indication: indication.map_or(0, |i| i as u32), octets }
+            }
+            Err(refusal) => Answer { refusal: refusal.number(), indication: 0, octets: Vec::new() },
+        }
+    }
+}
+
+impl Answer {
+    pub fn write(&self, output: &mut impl Write) -> io::Result<()> {
+        write_number(output, self.refusal)?;
+        write_number(output, self.indication)?;
+        write_octets(output, &self.octets)
+    }
+
+    /// The next answer of an output; none at its end.
+    pub fn take(output: &mut impl BufRead) -> io::Result<Option<Answer>> {
+        if output.fill_buf()?.is_empty() {
+            return Ok(None);
+        }
+        let (refusal, indication) = (take_number(output)?, take_number(output)?);
+        Ok(Some(Answer { refusal, indication, octets: take_octets(output)? }))
+    }
+}
+
 impl Event {
     /// Makes the call that the event is.
     pub fn happen(&self, station: &mut Station) -> Outcome {
@@ -75,17 +114,6 @@ pub fn write_configured(output: &mut impl Write, answer: Result<(), Refusal>) ->
     write_number(output, answer.err().map_or(0, Refusal::number))
 }
 
-/// The answer to an event.
-pub fn write_outcome(output: &mut impl Write, outcome: &Outcome) -> io::Result<()> {
-    let (refusal, indication, octets) = match outcome {
-        Ok((indication, octets)) => (0, indication.map_or(0, |i| i as u32), &octets[..]),
-        Err(refusal) => (refusal.number(), 0, &[][..]),
-    };
-    write_number(output, refusal)?;
-    write_number(output, indication)?;
-    write_octets(output, octets)
-}
-
 fn write_number(out: &mut impl Write, number: u32) -> io::Result<()> {
     out.write_all(&number.to_le_bytes())
 }
@@ -125,7 +153,7 @@ fn take_length(input: &mut impl Read) -> io::Result<usize> {
 }
 
 /// A length of at most 4,096, and so many octets.
-pub fn take_octets(input: &mut impl Read) -> io::Result<Vec<u8>> {
+fn take_octets(input: &mut impl Read) -> io::Result<Vec<u8>> {
     let mut octets = vec![0; take_length(input)?];
     fill(input, &mut octets)?;
     Ok(octets)

@@ -2,30 +2,24 @@
 
 use crate::compare;
 use crate::messages::{Address, Body, Kind, Message};
-use crate::refusal;
-use crate::script::{Event, Outcome};
-use crate::station::{Indication, Phase, State, Station};
+use crate::script::{Answer, Event};
+use crate::station::{Phase, State, Station};
 
 pub const HEADING: &str = "      time  event                            car                \
 state afterwards                          reply; indication";
 
 /// Time, message or event, car, state afterwards, reply, indication.
-pub fn line(event: &Event, station: &Station, outcome: &Outcome) -> String {
+pub fn line(event: &Event, station: &Station, answer: &Answer) -> String {
     let (name, car) = describe(event);
-    let reply = match outcome {
-        Err(refusal) => format!("refused {}: {}", *refusal as u8, refusal::words(refusal.number())),
-        Ok((_, octets)) => match (event, octets.is_empty()) {
-            (Event::Query { .. }, _) => {
-                format!("{} sounds heard", octets.first().copied().unwrap_or(0))
-            }
-            (_, true) => "-".into(),
-            (_, false) => compare::frames(octets),
-        },
+    let reply = match (answer.refusal, event, answer.octets.first()) {
+        (0, Event::Query { .. }, heard) => format!("{} sounds heard", heard.copied().unwrap_or(0)),
+        (0, _, None) => "-".into(),
+        (0, _, Some(_)) => compare::frames(&answer.octets),
+        (refusal, ..) => compare::refused(refusal),
     };
-    let indication = match outcome {
-        Ok((Some(Indication::NoLink), _)) => "; no link",
-        Ok((Some(Indication::LinkEstablished), _)) => "; link established",
-        _ => "",
+    let indication = match answer.indication {
+        0 => String::new(),
+        indication => format!("; {}", compare::indicated(indication)),
     };
     let car_text = car.map_or("-".into(), |car| car.to_string());
     let state = state(station, car);

@@ -559,6 +559,6 @@ fn random_scripts_come_from_their_seed_and_compare_equal() {
 fn the_demo_ends_in_link_established() {
     let (mut script, mut shown) = (Vec::new(), Vec::new());
     generate::demo(&mut script).unwrap();
-    assert!(crate::show(&script[..], &mut shown).unwrap());
+    assert!(crate::show(&script[..], None, &mut shown).unwrap());
     assert!(String::from_utf8(shown).unwrap().ends_with("link established\n"));
 }
