@@ -11,7 +11,7 @@ ghost use Rattle.messages.specs.Octets.{splice};
 ghost use Rattle.messages.specs.Table.{isUnicast};
 ghost use Rattle.messages.specs.Reading.{readRules, groupsOf, noGroups};
 ghost use Rattle.messages.specs.Writing.{writeRules, lengthOf, octetsOf};
-ghost use Rattle.messages.specs.Answers.{messageOf, answerOf, writtenOf};
+ghost use Rattle.messages.specs.Answers.{numberOf, messageOf, answerOf, writtenOf};
 
 // A charging station's address: its six octets as a number, first octet most significant.
 pub struct StationAddress(pub u64);
@@ -129,6 +129,31 @@ pub const BROADCAST: u64 = 0xFFFFFFFFFFFF;
 
 // The first number that is no NID: 2^54.
 pub const NID_LIMIT: u64 = 0x40000000000000;
+
+// A refusal's number, 1 to 17.
+pub fn refusal_number(refusal: Refusal) -> u32
+    ensures { λ r. ⌜ r ≡ numberOf refusal ⌝ }
+{
+    match refusal {
+        Refusal::TooShort => 1,
+        Refusal::BadHead => 2,
+        Refusal::UnknownType => 3,
+        Refusal::TooLong => 4,
+        Refusal::BadAddress => 5,
+        Refusal::BadOctet => 6,
+        Refusal::NotForUs => 7,
+        Refusal::WrongState => 8,
+        Refusal::AdmissionClosed => 9,
+        Refusal::RecordsFull => 10,
+        Refusal::NoRecord => 11,
+        Refusal::WrongPhase => 12,
+        Refusal::BadSoundCount => 13,
+        Refusal::TickGap => 14,
+        Refusal::OutputTooShort => 15,
+        Refusal::BadConfiguration => 16,
+        Refusal::OnlyForCars => 17,
+    }
+}
 
 // Whether an address is a unicast one: 48 bits, not all zero, an even first octet.
 pub fn is_unicast(address: u64) -> bool

@@ -5,14 +5,11 @@ use mathlib.Core.List.{List, [], _∷_, _++_, map, append-assoc, append-nil}
 use native.Mathlib.Omega.{arith}
 use native.Mathlib.Numerals.{add-one}
 use lib.ListN.{length, take, drop, getD, set, length-set, length-map, drop-of-length-le}
-use lib.Seq.{drop-cons, take-suc-set, drop-set-lt, take-all, getD-set-other}
+use lib.Seq.{take-suc-set, drop-set-lt, take-all, getD-set-other}
 use Rattle.rules.specs.Records.{added}
+use Rattle.rules.proofs.ListLaws.{drop-next}
 
 -- ---- one element more
-
--- the elements from i on are the one at i and those behind it
-pub drop-next : {A : Type 0} (l : List A) (i : ℕ) (z : A) → i < length l → drop i l ≡ getD l i z ∷ drop (i + 1) l
-drop-next l i z h = rw add-one (drop-cons l i z h)
 
 -- the elements before i + 1, with the one at i stored
 take-next : {A : Type 0} (l : List A) (i : ℕ) (v : A) → i < length l → take (i + 1) (set l i v) ≡ take i l ++ (v ∷ [])

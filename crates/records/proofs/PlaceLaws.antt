@@ -12,11 +12,11 @@ use Rattle.rules.specs.declared.Record.{Record}
 use Rattle.rules.specs.Lists.{only}
 use Rattle.rules.specs.Records.{isHeld, holds, mine, freePlaces, update, insert}
 use Rattle.rules.proofs.Logic.{split}
+use Rattle.rules.proofs.ListLaws.{drop-next}
 use Rattle.records.specs.declared.find.Found.{Found}
 use Rattle.records.specs.declared.find.Found.the-variants.{Own, Free, Nothing}
 use Rattle.records.specs.Places.{ownFrom, freeFrom, orElse, orFree, placeOf}
 use Rattle.records.proofs.find.Found.{the-type}
-use Rattle.records.proofs.LoopLaws.{drop-next}
 
 -- ---- the search
 

@@ -1,10 +1,10 @@
 -- A tick at one record: a phase by its time, and the reports by whether the record reports.
-use Prim.Native.Nat.{ℕ, _-_, _≤_}
+use Prim.Native.Nat.{ℕ, _-_}
 use mathlib.Core.Path.{_≡_, refl, sym, ap, _∙_}
 use mathlib.Core.Bool.{Bool, true, false, cond}
 use mathlib.Core.List.{List, [], _∷_}
 use native.Mathlib.Omega.{arith}
-use borrow.Author.Tests.{le-leb, lt-leb, eq-eqb, ne-eqb, eqb-false}
+use borrow.Author.Tests.{le-leb, lt-leb, eq-eqb, ne-eqb}
 use lib.Dec.{eqb, leb}
 use Rattle.rules.specs.declared.Configuration.{Configuration}
 use Rattle.rules.specs.declared.Phase.{Phase}
@@ -14,55 +14,35 @@ use Rattle.rules.specs.Constants.{retryCount}
 use Rattle.rules.specs.Records.{isHeld}
 use Rattle.rules.specs.Replies.{Reply, reportOf, frameTo, framesTo}
 use Rattle.rules.specs.Ticks.{Ticked, nowFree, stillHeld, waits, reports, fires, tickPhase, recordOf, repliesOf, tickRecord, tickReports}
-use Rattle.rules.specs.Invariant.{InPhase, GoodRecord}
 use Rattle.rules.proofs.Logic.{split, clash}
 use Rattle.records.specs.declared.timers.AfterTick.{AfterTick}
-use Rattle.records.specs.Timers.{anySent, tickReplies, afterTick, afterHeld}
+use Rattle.records.specs.Timers.{anySent, tickReplies, afterTick, afterHeld, timeOf, withLeft, firedOf}
 
 -- ---- a phase by its time
 
--- the time left
-abbrev pub timeOf : Phase → ℕ
-timeOf (Asked t) = t
-timeOf (Sounding t) = t
-timeOf (Reported t n) = t
-timeOf (Awaiting t) = t
-
--- what it comes to when that time fires
-abbrev pub firedOf : Record → Phase → Ticked
-firedOf r (Asked t) = nowFree
-firedOf r (Sounding t) = cond (eqb (r .profiles) 0) nowFree (reports retryCount r)
-firedOf r (Reported t n) = cond (eqb n 0) nowFree (reports (n - 1) r)
-firedOf r (Awaiting t) = nowFree
-
--- and what it is with so much left
-abbrev pub leftIn : ℕ → Record → Phase → Ticked
-leftIn left r (Asked t) = waits (Asked left) r
-leftIn left r (Sounding t) = waits (Sounding left) r
-leftIn left r (Reported t n) = waits (Reported left n) r
-leftIn left r (Awaiting t) = waits (Awaiting left) r
-
--- a phase comes to one of the two
-by-time : (e : ℕ) (r : Record) (p : Phase) → tickPhase e r p ≡ fires e (timeOf p) (firedOf r p) (leftIn (timeOf p - e) r p)
+-- a time fires, or the phase is left with what remains
+by-time : (e : ℕ) (r : Record) (p : Phase) → tickPhase e r p ≡ fires e (timeOf p) (firedOf r p) (waits (withLeft (timeOf p - e) p) r)
 unfolding tickPhase
 by-time e r (Asked t) = refl
 by-time e r (Sounding t) = refl
 by-time e r (Reported t n) = refl
 by-time e r (Awaiting t) = refl
 
-module _ (e : ℕ) (r : Record) (p : Phase) (told : r .phase ≡ p) (left : ℕ) (l : left ≡ timeOf p - e) (t : AfterTick) where
+module _ (e : ℕ) (r : Record) (left : ℕ) (l : left ≡ timeOf (r .phase) - e) (t : AfterTick) where
   -- a time of which nothing is left fires
-  pub time-fires : left ≡ 0 → t ≡ afterHeld r (firedOf r p) → t ≡ afterHeld r (tickPhase e r (r .phase))
+  pub time-fires : left ≡ 0 → t ≡ afterHeld r (firedOf r (r .phase)) → t ≡ afterHeld r (tickPhase e r (r .phase))
   time-fires z q =
+      let h : leb (timeOf (r .phase)) e ≡ true = le-leb (timeOf (r .phase)) e (omega arith) in
       q
-      ∙ sym (ap (λ (x : Phase). afterHeld r (tickPhase e r x)) told ∙ ap (afterHeld r) (by-time e r p ∙ rw (le-leb (timeOf p) e (omega arith))))
+      ∙ sym (ap (afterHeld r) (by-time e r (r .phase) ∙ ap (λ (b : Bool). cond b (firedOf r (r .phase)) (waits (withLeft (timeOf (r .phase) - e) (r .phase)) r)) h))
 
-  -- and else it is what is left
-  pub time-runs : (left ≡ 0 → ⊥) → t ≡ afterHeld r (leftIn left r p) → t ≡ afterHeld r (tickPhase e r (r .phase))
+  -- and else the phase is left with it
+  pub time-runs : (left ≡ 0 → ⊥) → t ≡ afterHeld r (waits (withLeft left (r .phase)) r) → t ≡ afterHeld r (tickPhase e r (r .phase))
   time-runs z q =
+      let h : leb (timeOf (r .phase)) e ≡ false = lt-leb (timeOf (r .phase)) e (omega arith) in
       q
-      ∙ ap (λ (n : ℕ). afterHeld r (leftIn n r p)) l
-      ∙ sym (ap (λ (x : Phase). afterHeld r (tickPhase e r x)) told ∙ ap (afterHeld r) (by-time e r p ∙ rw (lt-leb (timeOf p) e (omega arith))))
+      ∙ ap (λ (n : ℕ). afterHeld r (waits (withLeft n (r .phase)) r)) l
+      ∙ sym (ap (afterHeld r) (by-time e r (r .phase) ∙ ap (λ (b : Bool). cond b (firedOf r (r .phase)) (waits (withLeft (timeOf (r .phase) - e) (r .phase)) r)) h))
 
 -- what is chosen by a test of a count
 module _ (r : Record) (n : ℕ) (x y : Ticked) (t : AfterTick) where
@@ -92,49 +72,41 @@ tick-held e r t h q = q ∙ sym (ap (choose r (tickPhase e r (r .phase))) h)
 
 -- ---- the reports
 
--- what a tick sends is the record's report or nothing, and a record that reports has a profile counted
-record Sends (r : Record) (x : Ticked) : Type 0 where
-  one : repliesOf x ≡ cond (anySent (repliesOf x)) (reportOf r ∷ []) []
-  counted : anySent (repliesOf x) ≡ true → 1 ≤ r .profiles
+-- what a tick sends is the record's report or nothing
+abbrev Sends : Record → Ticked → Type 0
+Sends r x = repliesOf x ≡ cond (anySent (repliesOf x)) (reportOf r ∷ []) []
 
 -- a record that is kept with nothing sent
 sends-nothing : (r n : Record) → Sends r (stillHeld n [])
 unfolding repliesOf
-sends-nothing r n = record { one = refl; counted = λ h. clash false h refl }
+sends-nothing r n = refl
 
 -- a record that is freed
 sends-free : (r : Record) → Sends r nowFree
 unfolding repliesOf
-sends-free r = record { one = refl; counted = λ h. clash false h refl }
+sends-free r = refl
 
 -- a record that reports
-sends-report : (r : Record) (n : ℕ) → 1 ≤ r .profiles → Sends r (reports n r)
+sends-report : (r : Record) (n : ℕ) → Sends r (reports n r)
 unfolding repliesOf
-sends-report r n k = record { one = refl; counted = λ h. k }
+sends-report r n = refl
 
 -- one of two, by a test
-sends-either : (r : Record) (b : Bool) (x y : Ticked) → (b ≡ true → Sends r x) → (b ≡ false → Sends r y) → Sends r (cond b x y)
-sends-either r true x y f g = f refl
-sends-either r false x y f g = g refl
+sends-either : (r : Record) (b : Bool) (x y : Ticked) → Sends r x → Sends r y → Sends r (cond b x y)
+sends-either r true x y f g = f
+sends-either r false x y f g = g
 
 -- each phase
-sends-phase : (e : ℕ) (r : Record) (p : Phase) → InPhase p (r .profiles) → Sends r (tickPhase e r p)
+sends-phase : (e : ℕ) (r : Record) (p : Phase) → Sends r (tickPhase e r p)
 unfolding tickPhase
-sends-phase e r (Asked t) h = sends-either r (leb t e) _ _ (λ a. sends-free r) (λ a. sends-nothing r _)
-sends-phase e r (Sounding t) h =
-    sends-either r (leb t e) _ _
-    (λ a. sends-either r (eqb (r .profiles) 0) _ _ (λ b. sends-free r) (λ b. sends-report r retryCount (omega (arith, eqb-false (r .profiles) 0 b))))
-    (λ a. sends-nothing r _)
-sends-phase e r (Reported t n) h =
-    sends-either r (leb t e) _ _
-    (λ a. sends-either r (eqb n 0) _ _ (λ b. sends-free r) (λ b. sends-report r (n - 1) (h .1 .1 .0)))
-    (λ a. sends-nothing r _)
-sends-phase e r (Awaiting t) h = sends-either r (leb t e) _ _ (λ a. sends-free r) (λ a. sends-nothing r _)
+sends-phase e r (Asked t) = sends-either r (leb t e) _ _ (sends-free r) (sends-nothing r _)
+sends-phase e r (Sounding t) = sends-either r (leb t e) _ _ (sends-either r (eqb (r .profiles) 0) _ _ (sends-free r) (sends-report r retryCount)) (sends-nothing r _)
+sends-phase e r (Reported t n) = sends-either r (leb t e) _ _ (sends-either r (eqb n 0) _ _ (sends-free r) (sends-report r (n - 1))) (sends-nothing r _)
+sends-phase e r (Awaiting t) = sends-either r (leb t e) _ _ (sends-free r) (sends-nothing r _)
 
--- the reports of a good record, by whether it reports
+-- the reports of a record, by whether it reports
 pub record Reporting (o : Configuration) (e : ℕ) (r : Record) : Type 0 where
   pub frames : tickReports o e r ≡ cond (afterTick e r .reports) (frameTo o (r .car) (reportOf r) ∷ []) []
-  pub counted : afterTick e r .reports ≡ true → 1 ≤ r .profiles
   pub held : afterTick e r .reports ≡ true → isHeld r ≡ true
 
 -- the frames of that report or of nothing
@@ -143,20 +115,16 @@ one-frame o r true = refl
 one-frame o r false = refl
 
 -- by the phase, where the record is held
-pub reporting : (o : Configuration) (e : ℕ) (r : Record) → GoodRecord r → Reporting o e r
+pub reporting : (o : Configuration) (e : ℕ) (r : Record) → Reporting o e r
 unfolding afterTick tickReplies tickReports
-reporting o e r g =
-    let s : Sends r (tickPhase e r (r .phase)) = sends-phase e r (r .phase) (g .phase) in
+reporting o e r =
     let x : List Reply = repliesOf (tickPhase e r (r .phase)) in
     split (isHeld r)
     (λ h. record {
-      frames = rw h (ap (framesTo o (r .car)) (s .one) ∙ one-frame o r (anySent x));
-      counted = λ q. s .counted (ap (λ (b : Bool). anySent (cond b x [])) (sym h) ∙ q);
+      frames = rw h (ap (framesTo o (r .car)) (sends-phase e r (r .phase)) ∙ one-frame o r (anySent x));
       held = λ q. h;
     })
-    (λ h. let n : anySent (cond (isHeld r) x []) ≡ false = ap (λ (b : Bool). anySent (cond b x [])) h in
-    record {
+    (λ h. record {
       frames = rw h refl;
-      counted = λ q. clash (anySent (cond (isHeld r) x [])) q n;
-      held = λ q. clash (anySent (cond (isHeld r) x [])) q n;
+      held = λ q. clash (anySent (cond (isHeld r) x [])) q (ap (λ (b : Bool). anySent (cond b x [])) h);
     })

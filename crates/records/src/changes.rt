@@ -1,26 +1,18 @@
 // A record written anew: a fresh one, or with another owner, phase or set of sound counts.
 use messages::CarAddress;
-use messages::GROUPS;
 use messages::RunId;
 use rules::ASKED_TIME;
 use rules::Phase;
 use rules::Record;
 ghost use mathlib.Core.Path.{_≡_};
 ghost use Rattle.rules.specs.Records as defined;
-ghost use Rattle.rules.specs.Records.{noSums, inPhase, withHeard};
-
-// Sums of no profile.
-fn no_sums() -> [u16; GROUPS]
-    ensures { λ r. ⌜ r ≡ noSums ⌝ }
-{
-    [0; GROUPS]
-}
+ghost use Rattle.rules.specs.Records.{inPhase, withHeard};
 
 // PARM.REQ's record: a new run of the car, with nothing heard and nothing counted.
 pub fn fresh(car: CarAddress, run: RunId) -> Record
     ensures { λ r. ⌜ r ≡ defined.fresh car run ⌝ }
 {
-    let sums = no_sums();
+    let sums = rules::no_sums();
     Record {
         car: car,
         run: run,

@@ -16,7 +16,7 @@ pub enum Found {
 }
 
 // The place found so far, or else i where the record there is free.
-fn or_free(found: Found, i: usize, held: bool) -> Found
+pub fn or_free(found: Found, i: usize, held: bool) -> Found
     ensures { λ p. ⌜ p ≡ orFree found i held ⌝ }
 {
     let Found::Nothing = found else {

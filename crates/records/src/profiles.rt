@@ -1,6 +1,7 @@
 // The sums of the profiles counted.
 use messages::GROUPS;
 use messages::GroupValues;
+use rules::GroupSums;
 use rules::Record;
 ghost use Prim.Native.Nat.{ℕ, _*_, _<_, _≤_};
 ghost use mathlib.Core.Path.{_≡_};
@@ -17,7 +18,7 @@ fn wide(x: u8) -> u16
 }
 
 // Each group's value added to its sum.
-fn added(sums: [u16; GROUPS], values: GroupValues) -> [u16; GROUPS]
+fn added(sums: GroupSums, values: GroupValues) -> GroupSums
     requires { ⌜ ((i : ℕ) → getD sums i 0 ≤ 255 * soundCount) ⌝ }
     ensures { λ r. ⌜ r ≡ defined.added sums values ⌝ }
 {

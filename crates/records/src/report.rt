@@ -1,6 +1,7 @@
 // A report's group values.
 use messages::GROUPS;
 use messages::GroupValues;
+use rules::GroupSums;
 use rules::Record;
 ghost use mathlib.Core.Path.{_≡_};
 ghost use mathlib.Core.List.{map};
@@ -24,7 +25,7 @@ pub fn values(r: Record) -> GroupValues
 }
 
 // Each sum divided by a count.
-fn means(sums: [u16; GROUPS], count: u16) -> GroupValues
+fn means(sums: GroupSums, count: u16) -> GroupValues
     requires { ⌜ (1 ≤ count) × ((i : ℕ) → getD sums i 0 ≤ 255 * count) ⌝ }
     ensures { λ v. ⌜ v ≡ map (mean count) sums ⌝ }
 {
@@ -38,7 +39,7 @@ fn means(sums: [u16; GROUPS], count: u16) -> GroupValues
 }
 
 // Zeros in the place of group values.
-fn no_values() -> GroupValues
+pub fn no_values() -> GroupValues
     ensures { λ v. ⌜ v ≡ noGroups ⌝ }
 {
     [0; GROUPS]

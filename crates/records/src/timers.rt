@@ -12,7 +12,7 @@ ghost use Rattle.rules.specs.Records as records;
 ghost use Rattle.rules.specs.Records.{inPhase, owned};
 ghost use Rattle.rules.specs.Ticks as ticks;
 ghost use Rattle.rules.specs.Ticks.{nowFree, tickPhase};
-ghost use Rattle.records.specs.Timers.{afterTick, afterHeld};
+ghost use Rattle.records.specs.Timers.{afterTick, afterHeld, timeOf, withLeft, firedOf};
 
 // A record after a tick, and whether it reports.
 pub struct AfterTick {
@@ -39,48 +39,51 @@ fn tick_held(r: Record, elapsed: u32) -> AfterTick
     ensures { λ t. ⌜ t ≡ afterHeld r (tickPhase elapsed r (r .phase)) ⌝ }
 {
     let phase = r.phase;
+    let left = left_after(time_of(phase), elapsed);
+    if left == 0 {
+        fired(r)
+    } else {
+        wait(r, with_left(phase, left))
+    }
+}
+
+// The time left in a phase.
+pub fn time_of(phase: Phase) -> u32
+    ensures { λ t. ⌜ t ≡ timeOf phase ⌝ }
+{
     match phase {
-        Phase::Asked(time) => {
-            let left = left_after(time, elapsed);
-            if left == 0 {
-                free(r)
-            } else {
-                wait(r, Phase::Asked(left))
-            }
-        }
-        Phase::Sounding(time) => {
-            let left = left_after(time, elapsed);
-            if left == 0 {
-                first_report(r)
-            } else {
-                wait(r, Phase::Sounding(left))
-            }
-        }
-        Phase::Reported {
-            left: time,
-            retries,
-        } => {
-            let left = left_after(time, elapsed);
-            if left == 0 {
-                next_report(r, retries)
-            } else {
-                wait(
-                    r,
-                    Phase::Reported {
-                        left: left,
-                        retries: retries,
-                    },
-                )
-            }
-        }
-        Phase::Awaiting(time) => {
-            let left = left_after(time, elapsed);
-            if left == 0 {
-                free(r)
-            } else {
-                wait(r, Phase::Awaiting(left))
-            }
-        }
+        Phase::Asked(time) => time,
+        Phase::Sounding(time) => time,
+        Phase::Reported { left, retries: _ } => left,
+        Phase::Awaiting(time) => time,
+    }
+}
+
+// The phase with so much left.
+fn with_left(phase: Phase, left: u32) -> Phase
+    ensures { λ p. ⌜ p ≡ withLeft left phase ⌝ }
+{
+    match phase {
+        Phase::Asked(_) => Phase::Asked(left),
+        Phase::Sounding(_) => Phase::Sounding(left),
+        Phase::Reported { left: _, retries } => Phase::Reported {
+            left: left,
+            retries: retries,
+        },
+        Phase::Awaiting(_) => Phase::Awaiting(left),
+    }
+}
+
+// A held record whose phase's time has fired.
+fn fired(r: Record) -> AfterTick
+    ensures { λ t. ⌜ t ≡ afterHeld r (firedOf r (r .phase)) ⌝ }
+{
+    let phase = r.phase;
+    match phase {
+        Phase::Asked(_) => free(r),
+        Phase::Sounding(_) => first_report(r),
+        Phase::Reported { left: _, retries } => next_report(r, retries),
+        Phase::Awaiting(_) => free(r),
     }
 }
 

@@ -3,9 +3,7 @@ use Prim.Native.Nat.{ℕ, _+_, _<_, _≤_}
 use mathlib.Core.Path.{_≡_, sym, ap, _∙_}
 use mathlib.Core.Bool.{Bool, true, false}
 use mathlib.Core.List.{List, _∷_}
-use native.Mathlib.Numerals.{add-one}
 use lib.ListN.{length, drop, getD, drop-of-length-le}
-use lib.Seq.{drop-cons}
 use lib.Count.{ones}
 use Rattle.messages.specs.declared.CarAddress.{CarAddress}
 use Rattle.messages.specs.Reading.{no, yes, check}
@@ -14,21 +12,18 @@ use Rattle.rules.specs.declared.Station.{Station}
 use Rattle.rules.specs.Records.{holds, mine}
 use Rattle.rules.specs.Frames.{atOwn}
 use Rattle.rules.specs.Rules.{heardIn, soundsHeard}
-use Rattle.rules.proofs.ListLaws.{only-none, only-yes, only-no}
+use Rattle.rules.proofs.ListLaws.{drop-next, only-none, only-yes, only-no}
 
 -- the length of an array, passed
 pub passed : {A : Type 0} (l : List A) (n i : ℕ) → length l ≡ n → n ≤ i → length l ≤ i
 passed l n i e h = rw e h
 
 module _ (c : CarAddress) (l : List Record) (i : ℕ) (z : Record) (h : i < length l) where
-  drop-next : drop i l ≡ getD l i z ∷ drop (i + 1) l
-  drop-next = rw add-one (drop-cons l i z h)
-
   pub mine-here : holds c (getD l i z) ≡ true → mine c (drop i l) ≡ getD l i z ∷ mine c (drop (i + 1) l)
-  mine-here e = ap (mine c) drop-next ∙ only-yes (holds c) (getD l i z) (drop (i + 1) l) e
+  mine-here e = ap (mine c) (drop-next l i z h) ∙ only-yes (holds c) (getD l i z) (drop (i + 1) l) e
 
   pub mine-next : holds c (getD l i z) ≡ false → mine c (drop i l) ≡ mine c (drop (i + 1) l)
-  mine-next e = ap (mine c) drop-next ∙ only-no (holds c) (getD l i z) (drop (i + 1) l) e
+  mine-next e = ap (mine c) (drop-next l i z h) ∙ only-no (holds c) (getD l i z) (drop (i + 1) l) e
 
   pub heard-here : holds c (getD l i z) ≡ true → heardIn c (drop i l) ≡ yes (ones (getD l i z .heard))
   heard-here e = ap (λ (own : List Record). atOwn own (λ (r : Record). yes (ones (r .heard)))) (mine-here e)

@@ -153,6 +153,18 @@ module _ (own : List Record) (g : All GoodRecord own) where
   change-fit c (profile vs) o a free = back-own (λ (r : Record). profileRule vs r (r .phase)) (λ r f. profile-fit r f vs (r .phase) o refl)
   change-fit c (rsp run) o a free = back-run run (λ (r : Record). rspRule r (r .phase)) (λ r f. rsp-fit r f (r .phase) refl)
 
+-- as its car's own, the record of a change is a good one
+abbrev GoodChange : CarAddress → Change → Type 0
+GoodChange c x = GoodRecord (owned c (x .kept))
+
+own-good : (c : CarAddress) → isUnicast (c .0) ≡ true → (w : Checked Change) → OnYes FitChange w → OnYes (GoodChange c) w
+own-good c u (no n) h = tt
+own-good c u (yes x) h = good-owned c (x .kept) u h
+
+-- what a message at its car's records leaves
+pub change-good : (c : CarAddress) → isUnicast (c .0) ≡ true → (own : List Record) → All GoodRecord own → (m : RecordMessage) → OctetRequest (forRecord m) → (a free : ℕ) → OnYes (λ (x : Change). GoodRecord (owned c (x .kept))) (changeRule c m a free own)
+change-good c u own g m o a free = own-good c u (changeRule c m a free own) (change-fit own g c m o a free)
+
 -- ---- a tick at one record
 
 abbrev FitTicked : Ticked → Type 0
@@ -200,9 +212,9 @@ tick-good e r g = split (isHeld r)
 
 -- ---- the records
 
-put-good : (c : CarAddress) → isUnicast (c .0) ≡ true → (rs : List Record) → All GoodRecord rs → (w : Checked Change) → OnYes FitChange w → OnYes (λ (x : Change). All GoodRecord (put c (x .place) (x .kept) rs)) w
-put-good c u rs g (no n) h = tt
-put-good c u rs g (yes x) h = all-put GoodRecord c (x .place) (x .kept) (good-owned c (x .kept) u h) rs g
+put-good : (c : CarAddress) (rs : List Record) → All GoodRecord rs → (w : Checked Change) → OnYes (GoodChange c) w → OnYes (λ (x : Change). All GoodRecord (put c (x .place) (x .kept) rs)) w
+put-good c rs g (no n) h = tt
+put-good c rs g (yes x) h = all-put GoodRecord c (x .place) (x .kept) h rs g
 
 -- ---- the station
 
@@ -236,7 +248,7 @@ unfolding step
 step-keeps s x h i = record {
   config = subst GoodConfiguration (sym (config-same (shared s) x)) (i .config);
   records = always (All GoodRecord) OctetRequest
-      (λ c u m o a rs g. put-good c u rs g (changeRule c m a (freePlaces rs) (mine c rs)) (change-fit (mine c rs) (all-only GoodRecord (holds c) rs g) c m o a (freePlaces rs)))
+      (λ c u m o a rs g. put-good c rs g (changeRule c m a (freePlaces rs) (mine c rs)) (change-good c u (mine c rs) (all-only GoodRecord (holds c) rs g) m o a (freePlaces rs)))
       (λ e rs g. all-map GoodRecord (tickRecord e) (tick-good e) rs g)
       (λ rs g. all-map GoodRecord freed (λ r q. good-freed r (fit r q)) rs g)
       (shared s) (inner s) x (octet-meets (s .config) x h) (i .records);

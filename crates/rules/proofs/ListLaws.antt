@@ -1,10 +1,12 @@
 -- Laws of lists: the elements that pass a test, what holds of every element, another order, and lists back to back.
-use Prim.Native.Nat.{ℕ, zero, suc, _+_}
+use Prim.Native.Nat.{ℕ, zero, suc, _+_, _<_}
 use mathlib.Core.Path.{_≡_, refl, sym, _∙_, ap, subst}
 use mathlib.Core.Bool.{Bool, true, false, not}
 use mathlib.Core.List.{List, [], _∷_, _++_, append-assoc, map}
 use native.Mathlib.Omega.{arith}
-use lib.ListN.{length, length-append, replicate}
+use native.Mathlib.Numerals.{add-one}
+use lib.ListN.{length, drop, getD, length-append, replicate}
+use lib.Seq.{drop-cons}
 use Rattle.rules.specs.Lists.{only, All, Permuted, joins}
 use Rattle.rules.proofs.Logic.{split, no-cons}
 
@@ -14,6 +16,10 @@ module _ {A : Type 0} where
 
   pub rest-same : (x y : A) (xs ys : List A) → x ∷ xs ≡ y ∷ ys → xs ≡ ys
   rest-same x y xs ys e = cc
+
+  -- the elements from i on are the one at i and those behind it
+  pub drop-next : (l : List A) (i : ℕ) (z : A) → i < length l → drop i l ≡ getD l i z ∷ drop (i + 1) l
+  drop-next l i z h = rw add-one (drop-cons l i z h)
 
   no-middle : (p q : List A) (x : A) → p ++ (x ∷ q) ≡ [] → ⊥
   no-middle [] q x e = no-cons x q e
@@ -117,6 +123,12 @@ module _ {A : Type 0} (P : A → Type 0) where
   unfolding only
   all-only b [] h = tt
   all-only b (x ∷ xs) h = split (b x) (λ e. rw e (h .0, all-only b xs (h .1))) (λ e. rw e (all-only b xs (h .1)))
+
+  -- the element at a place
+  pub all-at : (xs : List A) (i : ℕ) (z : A) → All P xs → i < length xs → P (getD xs i z)
+  all-at [] i z h k = absurd (omega arith)
+  all-at (x ∷ xs) zero z h k = h .0
+  all-at (x ∷ xs) (suc i) z h k = all-at xs i z (h .1) (omega arith)
 
   pub all-replicate : (x : A) → P x → (n : ℕ) → All P (replicate n x)
   all-replicate x h zero = tt

@@ -27,7 +27,8 @@ zero-octets zero i = omega arith
 zero-octets (suc n) zero = omega arith
 zero-octets (suc n) (suc i) = zero-octets n i
 
-none-octets : Octets noGroups
+-- zeros in the place of group values
+pub none-octets : Octets noGroups
 unfolding noGroups
 none-octets = zero-octets groupCount
 

@@ -14,6 +14,7 @@ pub mod Rules
 pub mod Invariant
 pub mod Reachable
 pub mod Answers
+pub mod Numbers
 pub mod Cases
 pub mod Demand3
 pub mod Exceptions

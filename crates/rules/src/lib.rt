@@ -15,6 +15,7 @@ ghost use Rattle.rules.specs.Records as records;
 ghost use Rattle.rules.specs.Records.{noSums};
 ghost use Rattle.rules.specs.Rules.{isGood, freeRecord, heardIn, soundsHeard};
 ghost use Rattle.rules.specs.Answers.{heardOf, Configures};
+ghost use Rattle.rules.specs.Numbers.{indicationNumber, pilotOf};
 
 // Admission's time, in milliseconds as the others: the greatest TT_EVSE_SLAC_init.
 pub const ADMISSION_TIME: u32 = 50000;
@@ -69,6 +70,9 @@ pub enum Phase {
     Awaiting(u32),
 }
 
+// The sums of a record's groups.
+pub type GroupSums = [u16; GROUPS];
+
 // One car's run: the sound counts heard are the ones of a set, the sums those of the profiles counted.
 pub struct Record {
     pub car: CarAddress,
@@ -77,7 +81,7 @@ pub struct Record {
     pub phase: Phase,
     pub heard: u16,
     pub profiles: u8,
-    pub sums: [u16; GROUPS],
+    pub sums: GroupSums,
 }
 
 // The records of a station, side by side.
@@ -149,8 +153,41 @@ pub enum HeardAnswer {
     Heard(u32),
 }
 
+// An indication's number: 0 for none, 1 for "no link", 2 for "link established".
+pub fn indication_number(indication: Indication) -> u32
+    ensures { λ r. ⌜ r ≡ indicationNumber indication ⌝ }
+{
+    match indication {
+        Indication::Nothing => 0,
+        Indication::NoLink => 1,
+        Indication::LinkEstablished => 2,
+    }
+}
+
+// A pilot state by its number: 0 to 4 for A to E, any other for F.
+pub fn pilot_of(number: u64) -> Pilot
+    ensures { λ r. ⌜ r ≡ pilotOf number ⌝ }
+{
+    if number == 0 {
+        return Pilot::A;
+    }
+    if number == 1 {
+        return Pilot::B;
+    }
+    if number == 2 {
+        return Pilot::C;
+    }
+    if number == 3 {
+        return Pilot::D;
+    }
+    if number == 4 {
+        return Pilot::E;
+    }
+    Pilot::F
+}
+
 // Sums of no profile.
-fn no_sums() -> [u16; GROUPS]
+pub fn no_sums() -> GroupSums
     ensures { λ r. ⌜ r ≡ noSums ⌝ }
 {
     [0; GROUPS]
@@ -181,7 +218,7 @@ fn free_records() -> RecordArray
 }
 
 // Whether a configuration is good: both addresses unicast and different, the NID below 2^54.
-fn is_good(address: StationAddress, modem: ModemAddress, nid: Nid) -> bool
+pub fn is_good(address: StationAddress, modem: ModemAddress, nid: Nid) -> bool
     ensures { λ r. ⌜ r ≡ isGood address modem nid ⌝ }
 {
     messages::is_unicast(address.0)

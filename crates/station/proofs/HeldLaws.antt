@@ -2,32 +2,26 @@
 use Prim.Native.Nat.{ℕ, _+_, _≤_, _<_}
 use mathlib.Core.Path.{_≡_, ap, _∙_}
 use mathlib.Core.Bool.{true, false}
-use mathlib.Core.List.{List, _∷_}
+use mathlib.Core.List.{List}
 use native.Mathlib.Omega.{arith}
-use native.Mathlib.Numerals.{add-one}
 use lib.Dec.{eqb, eqb·suc-zero}
 use lib.ListN.{length, drop, getD, drop-of-length-le}
-use lib.Seq.{drop-cons}
 use Rattle.rules.specs.declared.Record.{Record}
 use Rattle.rules.specs.Lists.{only}
 use Rattle.rules.specs.Records.{isHeld, noneHeld}
-use Rattle.rules.proofs.ListLaws.{only-none, only-yes, only-no}
+use Rattle.rules.proofs.ListLaws.{drop-next, only-none, only-yes, only-no}
 
 -- from the place i on no record is held where none is at all
 abbrev pub Sought : List Record → ℕ → Type 0
 Sought l i = (i ≤ length l) × (noneHeld l ≡ noneHeld (drop i l))
 
 module _ (l : List Record) (i : ℕ) (z : Record) (h : i < length l) where
-  -- the record at i, and those behind it
-  drop-next : drop i l ≡ getD l i z ∷ drop (i + 1) l
-  drop-next = rw add-one (drop-cons l i z h)
-
   -- a held record
   pub held-here : Sought l i → getD l i z .held ≡ true → noneHeld l ≡ false
   unfolding isHeld
   held-here s q =
       s .1
-      ∙ ap noneHeld drop-next
+      ∙ ap noneHeld (drop-next l i z h)
       ∙ ap (λ (x : List Record). eqb (length x) 0) (only-yes isHeld (getD l i z) (drop (i + 1) l) q)
       ∙ eqb·suc-zero (length (only isHeld (drop (i + 1) l)))
 
@@ -36,7 +30,7 @@ module _ (l : List Record) (i : ℕ) (z : Record) (h : i < length l) where
   unfolding isHeld
   held-next s q = (
     omega arith,
-    s .1 ∙ ap noneHeld drop-next ∙ ap (λ (x : List Record). eqb (length x) 0) (only-no isHeld (getD l i z) (drop (i + 1) l) q),
+    s .1 ∙ ap noneHeld (drop-next l i z h) ∙ ap (λ (x : List Record). eqb (length x) 0) (only-no isHeld (getD l i z) (drop (i + 1) l) q),
   )
 
 -- past the last record

@@ -97,11 +97,11 @@ unfolding forUs
 for-us-rule true c m g = refl
 for-us-rule false c m g = refl
 
--- a request that was judged, of the message m that was found to be m′
-pub addressed-as : (o : Configuration) (b : Bool) (c : CarAddress) (q : code.Request) (m m′ : Message) (j : Judged) → j ≡ forUs b c q → m ≡ m′
-    → ((g : List ℕ) → check b 7 (yes (record { car = c; request = requestOf q g })) ≡ addressedRule o (messageOf m′ g)) → (g : List ℕ) → judgedOf j g ≡ addressedRule o (messageOf m g)
-addressed-as o b c q m m′ j e t h g =
-    ap (λ (x : Judged). judgedOf x g) e ∙ for-us-rule b c q g ∙ h g ∙ sym (ap (λ (x : Message). addressedRule o (messageOf x g)) t)
+-- a request q that was found to be q′, of the message m that was found to be m′
+pub addressed-as : (o : Configuration) (b : Bool) (c : CarAddress) (q q′ : code.Request) (m m′ : Message) (j : Judged) → j ≡ forUs b c q → q ≡ q′ → m ≡ m′
+    → ((g : List ℕ) → check b 7 (yes (record { car = c; request = requestOf q′ g })) ≡ addressedRule o (messageOf m′ g)) → (g : List ℕ) → judgedOf j g ≡ addressedRule o (messageOf m g)
+addressed-as o b c q q′ m m′ j e f t h g =
+    ap (λ (x : Judged). judgedOf x g) (e ∙ ap (forUs b c) f) ∙ for-us-rule b c q′ g ∙ h g ∙ sym (ap (λ (x : Message). addressedRule o (messageOf x g)) t)
 
 -- 17
 pub only-cars : (o : Configuration) (m : Message) (g : List ℕ) → OneOf (1 ∷ 3 ∷ 7 ∷ []) (tagOf the-type m) → no 17 ≡ addressedRule o (messageOf m g)
@@ -175,7 +175,7 @@ pub record Judges (o : Configuration) (n : ℕ) (c : CarAddress) : Type 0 where
   pub car : isUnicast (c .0) ≡ true
 
 -- a refusal is no answer
-no-yes : {A : Type 0} {P : Type 0} (n : ℕ) (y : A) → _≡_ {A = Checked A} (no n) (yes y) → P
+pub no-yes : {A : Type 0} {P : Type 0} (n : ℕ) (y : A) → _≡_ {A = Checked A} (no n) (yes y) → P
 no-yes n y e = absurd (let z : _≡_ {A = ℕ} 0 1 = cc in omega arith)
 
 -- by the tests

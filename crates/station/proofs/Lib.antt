@@ -6,7 +6,7 @@ pub mod ComesLaws
 pub mod ParmLaws
 pub mod OwnLaws
 pub mod MatchLaws
-pub mod SendableLaws
+pub mod KeptLaws
 pub mod EventLaws
 pub mod ReportLaws
 pub mod TickLoopLaws

@@ -13,7 +13,7 @@ use Rattle.rules.specs.declared.Station.{Station}
 use Rattle.rules.specs.Outcomes.{andThen}
 use Rattle.rules.specs.Records.{mine, freePlaces, owned}
 use Rattle.rules.specs.Received.{forRecord}
-use Rattle.rules.specs.Replies.{framesTo}
+use Rattle.rules.specs.Replies.{reportOf, framesTo}
 use Rattle.rules.specs.Stations.{done}
 use Rattle.rules.specs.Frames.{Kept, Change, atOwn, putBack, changeRule, put, changed, stateRule}
 use Rattle.records.specs.declared.requests.RunMessage.the-variants.{Start, Sound, Rsp}
@@ -24,12 +24,17 @@ use Rattle.station.specs.Judge.{ownMessageOf}
 use Rattle.station.specs.Frames.{ownRule, settled}
 
 -- each message is a rule at the car's own record
-change-own : (c : CarAddress) (m : OwnMessage) (g : List ℕ) (a free : ℕ) (own : List Record) → changeRule c (ownMessageOf m g) a free own ≡ putBack (atOwn own (ownRule m g))
+pub change-own : (c : CarAddress) (m : OwnMessage) (g : List ℕ) (a free : ℕ) (own : List Record) → changeRule c (ownMessageOf m g) a free own ≡ putBack (atOwn own (ownRule m g))
 unfolding changeRule
 change-own c (Run run Start) g a free own = refl
 change-own c (Run run (Sound k)) g a free own = refl
 change-own c (Run run Rsp) g a free own = refl
 change-own c Profile g a free own = refl
+
+-- a report is the same of the car's own record
+pub report-owned : (c : CarAddress) (r : Record) → reportOf (owned c r) ≡ reportOf r
+unfolding reportOf owned
+report-owned c r = refl
 
 module _ (s : Station) (c : CarAddress) (m : OwnMessage) (g : List ℕ) (a : ℕ) (e : s .state ≡ Matching a) where
   -- by the car's records

@@ -1,17 +1,17 @@
--- PARM.REQ, in the rules' words.
-use Prim.Native.Nat.{ℕ, zero, suc, _<_}
+-- PARM.REQ, in the rules' words: by the place that its record is given.
+use Prim.Native.Nat.{ℕ, _<_}
 use mathlib.Core.Path.{_≡_, refl, sym, ap, ap₂, _∙_}
 use mathlib.Core.Bool.{Bool, true, false}
 use mathlib.Core.List.{List, [], _∷_}
 use native.Mathlib.Omega.{arith}
 use borrow.Author.Tests.{lt-ltb, le-ltb}
 use lib.Dec.{ltb}
-use lib.ListN.{set}
+use lib.ListN.{length, set}
 use Rattle.messages.specs.declared.CarAddress.{CarAddress}
 use Rattle.messages.specs.declared.RunId.{RunId}
-use Rattle.messages.specs.Reading.{no, yes, check}
+use Rattle.messages.specs.Reading.{Checked, no, yes, check}
 use Rattle.rules.specs.declared.Configuration.{Configuration}
-use Rattle.rules.specs.declared.Indication.the-variants.{Nothing}
+use Rattle.rules.specs.declared.Indication.the-variants as indication
 use Rattle.rules.specs.declared.Record.{Record}
 use Rattle.rules.specs.declared.State.{State}
 use Rattle.rules.specs.declared.State.the-variants.{Matching}
@@ -19,16 +19,22 @@ use Rattle.rules.specs.Outcomes.{andThen}
 use Rattle.rules.specs.Records.{mine, freePlaces, owned, fresh}
 use Rattle.rules.specs.Received.{parmReq, forRecord}
 use Rattle.rules.specs.Replies.{parmCnf, framesTo}
-use Rattle.rules.specs.Stations.{done}
+use Rattle.rules.specs.Stations.{Done, done}
 use Rattle.rules.specs.Frames.{Change, freePlace, requested, parmRule, changeRule, put, changed, stateRule}
-use Rattle.records.proofs.PlaceLaws.{OwnAt, FreeAt}
-
--- a time that is not 0
-above : (a : ℕ) → (a ≡ 0 → ⊥) → 0 < a
-above zero n = absurd (n refl)
-above (suc a) n = omega arith
+use Rattle.records.specs.declared.find.Found.{Found}
+use Rattle.records.specs.declared.find.Found.the-variants.{Own, Free, Nothing}
+use Rattle.records.specs.Places.{placeOf}
+use Rattle.records.proofs.PlaceLaws.{FoundAt, found}
+use Rattle.station.specs.declared.admission.Admission.{Admission}
+use Rattle.station.specs.declared.admission.Admission.the-variants.{At}
+use Rattle.station.specs.Frames.{admissionRule, admissionOf}
+use Rattle.station.proofs.JudgeLaws.{no-yes}
 
 module _ (o : Configuration) (st : State) (rs : List Record) (c : CarAddress) (run : RunId) (a : ℕ) (e : st ≡ Matching a) where
+  -- the record anew at place i, and PARM.CNF
+  abbrev pub admits : ℕ → Checked Done
+  admits i = yes (done st (set rs i (owned c (fresh c run))) (framesTo o c (parmCnf run ∷ [])) indication.Nothing)
+
   -- by the car's records and the free places
   asked : (own : List Record) → mine c rs ≡ own → stateRule o st rs c (forRecord (parmReq run)) ≡ andThen (parmRule c run a (freePlaces rs) own) (λ (x : Change). yes (changed o st rs c x))
   unfolding stateRule changeRule
@@ -36,31 +42,42 @@ module _ (o : Configuration) (st : State) (rs : List Record) (c : CarAddress) (r
       ap (λ (q : State). stateRule o q rs c (forRecord (parmReq run))) e
       ∙ ap₂ (λ (l : List Record) (q : State). andThen (parmRule c run a (freePlaces rs) l) (λ (x : Change). yes (changed o q rs c x))) m (sym e)
 
-  -- the car's own record restarts
-  pub asked-own : (i : ℕ) (d : Record) → OwnAt c rs i → yes (done st (set rs i (owned c (fresh c run))) (framesTo o c (parmCnf run ∷ [])) Nothing) ≡ stateRule o st rs c (forRecord (parmReq run))
+  -- a car with no record: 9, 10, or the first free record
+  asked-none : (f : Bool) → mine c rs ≡ [] → ltb 0 (freePlaces rs) ≡ f
+      → stateRule o st rs c (forRecord (parmReq run)) ≡ andThen (check (ltb 0 a) 9 (check f 10 (yes (requested c run freePlace)))) (λ (x : Change). yes (changed o st rs c x))
+  unfolding parmRule
+  asked-none f m q = asked [] m ∙ ap (λ (y : Bool). andThen (check (ltb 0 a) 9 (check y 10 (yes (requested c run freePlace)))) (λ (z : Change). yes (changed o st rs c z))) q
+
+  -- what follows a test with 9
+  nine : {A : Type 0} (b : Bool) (x : Checked A) (y : Checked ℕ) (f : A → Checked Done) → andThen x f ≡ andThen y admits → andThen (check b 9 x) f ≡ andThen (check b 9 y) admits
+  nine true x y f q = q
+  nine false x y f q = refl
+
+  -- by the place: the car's own, the first free one, or none
+  by-place : (p : Found) → FoundAt c rs p → stateRule o st rs c (forRecord (parmReq run)) ≡ andThen (admissionRule p (ltb 0 a)) admits
   unfolding parmRule requested put
-  asked-own i d w = ap (λ (l : List Record). yes (done st l (framesTo o c (parmCnf run ∷ [])) Nothing)) (w .put (owned c (fresh c run))) ∙ sym (asked _ (w .mine d))
+  by-place (Own i) w = asked _ (w .mine (fresh c run)) ∙ ap (λ (l : List Record). yes (done st l (framesTo o c (parmCnf run ∷ [])) indication.Nothing)) (sym (w .put (owned c (fresh c run))))
+  by-place (Free i) w =
+      asked-none true (w .mine) (lt-ltb 0 (freePlaces rs) (w .free))
+      ∙ nine (ltb 0 a) (yes (requested c run freePlace)) (yes i) (λ (z : Change). yes (changed o st rs c z))
+      (ap (λ (l : List Record). yes (done st l (framesTo o c (parmCnf run ∷ [])) indication.Nothing)) (sym (w .put (owned c (fresh c run)))))
+  by-place Nothing w =
+      asked-none false (w .mine) (le-ltb 0 (freePlaces rs) (omega (arith, w .free)))
+      ∙ nine (ltb 0 a) (no 10) (no 10) (λ (z : Change). yes (changed o st rs c z)) refl
 
-  module _ (m : mine c rs ≡ []) where
-    -- a car with no record: 9, 10, or the first free record
-    asked-none : (b f : Bool) → ltb 0 a ≡ b → ltb 0 (freePlaces rs) ≡ f
-        → stateRule o st rs c (forRecord (parmReq run)) ≡ andThen (check b 9 (check f 10 (yes (requested c run freePlace)))) (λ (x : Change). yes (changed o st rs c x))
-    unfolding parmRule
-    asked-none b f p q = asked [] m ∙ ap₂ (λ (x y : Bool). andThen (check x 9 (check y 10 (yes (requested c run freePlace)))) (λ (z : Change). yes (changed o st rs c z))) p q
+  -- a place that is given is inside
+  given-inside : (p : Found) (isOpen : Bool) (i : ℕ) → FoundAt c rs p → admissionRule p isOpen ≡ yes i → i < length rs
+  given-inside (Own k) isOpen i w q = let z : k ≡ i = cc in omega (arith, w .inside)
+  given-inside (Free k) true i w q = let z : k ≡ i = cc in omega (arith, w .inside)
+  given-inside (Free k) false i w q = no-yes 9 i q
+  given-inside Nothing true i w q = no-yes 10 i q
+  given-inside Nothing false i w q = no-yes 9 i q
 
-    -- 9
-    pub asked-closed : a ≡ 0 → stateRule o st rs c (forRecord (parmReq run)) ≡ no 9
-    asked-closed z = asked-none false (ltb 0 (freePlaces rs)) (le-ltb 0 a (omega arith)) refl
+  module _ (p : Found) (ep : p ≡ placeOf c rs) (x : Admission) (ex : admissionOf x ≡ admissionRule p (ltb 0 a)) where
+    -- the rule by what the code answers
+    pub parm-answered : stateRule o st rs c (forRecord (parmReq run)) ≡ andThen (admissionOf x) admits
+    parm-answered = by-place p (found c rs p p ep refl) ∙ ap (λ (w : Checked ℕ). andThen w admits) (sym ex)
 
-    -- 10
-    pub asked-full : (a ≡ 0 → ⊥) → freePlaces rs ≡ 0 → stateRule o st rs c (forRecord (parmReq run)) ≡ no 10
-    asked-full z f = asked-none true false (lt-ltb 0 a (above a z)) (le-ltb 0 (freePlaces rs) (omega arith))
-
-    -- the first free record
-    asked-new : (a ≡ 0 → ⊥) → 0 < freePlaces rs → stateRule o st rs c (forRecord (parmReq run)) ≡ yes (changed o st rs c (requested c run freePlace))
-    asked-new z f = asked-none true true (lt-ltb 0 a (above a z)) (lt-ltb 0 (freePlaces rs) f)
-
-  -- that record at its place
-  pub asked-free : (i : ℕ) → (a ≡ 0 → ⊥) → FreeAt c rs i → yes (done st (set rs i (owned c (fresh c run))) (framesTo o c (parmCnf run ∷ [])) Nothing) ≡ stateRule o st rs c (forRecord (parmReq run))
-  unfolding requested put
-  asked-free i z w = ap (λ (l : List Record). yes (done st l (framesTo o c (parmCnf run ∷ [])) Nothing)) (w .put (owned c (fresh c run))) ∙ sym (asked-new (w .mine) z (w .free))
+    -- the place that it gives is inside
+    pub parm-inside : (i : ℕ) → x ≡ At i → i < length rs
+    parm-inside i t = given-inside p (ltb 0 a) i (found c rs p p ep refl) (sym ex ∙ ap admissionOf t)

@@ -1,11 +1,11 @@
 -- Sending a reply: it can be written, and it stands in the output.
-use Prim.Native.Nat.{ℕ, _^_, _<_}
-use mathlib.Core.Path.{_≡_, refl, sym, ap, _∙_}
+use Prim.Native.Nat.{ℕ, _^_, _<_, _≤_}
+use mathlib.Core.Path.{_≡_, refl, sym, ap, _∙_, subst}
 use mathlib.Core.Bool.{true, _&&_}
-use mathlib.Core.List.{List, [], _∷_, append-nil}
+use mathlib.Core.List.{List, [], _∷_, map, append-nil}
 use native.Mathlib.Omega.{arith}
 use borrow.Author.Tests.{lt-ltb}
-use lib.ListN.{length}
+use lib.ListN.{length, length-map, length-replicate}
 use Rattle.messages.specs.declared.CarAddress.{CarAddress}
 use Rattle.messages.specs.declared.Message.{Message}
 use Rattle.messages.specs.declared.Message.the-variants.{SlacParmCnf, AttenCharInd, SlacMatchCnf}
@@ -15,21 +15,24 @@ use Rattle.messages.specs.declared.Written.the-variants as written
 use Rattle.messages.specs.declared.Refusal.{Refusal}
 use Rattle.messages.specs.Answers.{messageOf, writtenOf}
 use Rattle.messages.specs.Octets.{splice}
-use Rattle.messages.specs.Reading.{Checked, yes}
+use Rattle.messages.specs.Reading.{Checked, yes, noGroups}
 use Rattle.messages.specs.Table as table
-use Rattle.messages.specs.Table.{groupCount, isUnicast}
-use Rattle.messages.specs.Writing.{frame, writeRules, lengthOf, octetsOf}
-use Rattle.messages.proofs.WriteLaws.{headIn, headed, writes}
+use Rattle.messages.specs.Table.{groupCount, isUnicast, writtenSize}
+use Rattle.messages.specs.Writing.{frame, isAddressed, isLimited, writeRules, lengthOf, octetsOf}
+use Rattle.messages.proofs.WriteLaws.{Typed, headIn, headed, writes}
+use Rattle.rules.specs.declared.Configuration.{Configuration}
 use Rattle.rules.specs.declared.Indication.the-variants.{Nothing}
 use Rattle.rules.specs.declared.Record.{Record}
 use Rattle.rules.specs.declared.State.{State}
 use Rattle.rules.specs.declared.Station.{Station}
 use Rattle.rules.specs.declared.Stepped.{Stepped}
+use Rattle.rules.specs.Constants.{leastOutput}
 use Rattle.rules.specs.Lists.{joins}
+use Rattle.rules.specs.Replies.{mean, parmCnf, matchCnf, reportOf, messageTo}
 use Rattle.rules.specs.Stations.{done}
 use Rattle.rules.specs.Answers.{Summary, answerOf}
 use Rattle.station.specs.Steps.{doneAs, anew}
-use Rattle.station.specs.Frames.{Writable, Ready, Comes}
+use Rattle.station.specs.Frames.{Writable, Comes}
 
 -- ---- what was written
 
@@ -65,33 +68,38 @@ one-sent s st rs f n entry exit x r ex er en eo = record {
 
 -- ---- the replies can be written
 
-module _ (s : Station) (c : CarAddress) (run : RunId) (out g : List ℕ) (r : Ready s c out) (u : run .0 < 2 ^ 64) (l : length g ≡ groupCount) where
-  -- our address is unicast
-  us : isUnicast (s .config .address .0) ≡ true
-  us = r .kept .config .address (r .good)
+-- a message in other words
+pub writable-as : (m k : table.Message) (n : ℕ) → m ≡ k → Writable k n → Writable m n
+writable-as m k n e w = subst (λ (x : table.Message). Writable x n) (sym e) w
 
-  -- both addresses are
-  to-car : isUnicast (s .config .address .0) && isUnicast (c .0) ≡ true
-  to-car = rw (us, r .car)
+module _ (o : Configuration) (c : CarAddress) (n : ℕ) (us : isUnicast (o .address .0) ≡ true) (car : isUnicast (c .0) ≡ true) where
+  -- both addresses are unicast
+  to-car : isUnicast (o .address .0) && isUnicast (c .0) ≡ true
+  to-car = rw (us, car)
+
+  -- what the numbers' types say is enough, and NID is limited
+  fitting : (m : Message) (g : List ℕ) → Typed m → length g ≡ groupCount → isAddressed (messageOf m g) ≡ true → headIn m .limited ≡ isLimited (messageOf m g)
+  fitting m g t l a = headed g l (headIn m) m m refl t refl .limited a
 
   -- PARM.CNF
-  pub parm-cnf-writable : Writable (messageOf (SlacParmCnf (s .config .address) c run) g) (length out)
-  parm-cnf-writable =
-      let m = SlacParmCnf (s .config .address) c run in
-      record { addressed = to-car; limited = sym (headed g l (headIn m) m m refl u refl .limited to-car); room = omega (arith, r .room) }
+  pub parm-cnf-writable : (run : RunId) → run .0 < 2 ^ 64 → leastOutput ≤ n → Writable (messageTo o c (parmCnf run)) n
+  unfolding noGroups
+  parm-cnf-writable run u h = record { addressed = to-car; limited = sym (fitting (SlacParmCnf (o .address) c run) noGroups u (length-replicate {A = ℕ} groupCount 0) to-car); room = omega (arith, h) }
 
-  -- the report
-  pub report-writable : (n : ℕ) → n < 2 ^ 8 → Writable (messageOf (AttenCharInd (s .config .address) c run n) g) (length out)
-  report-writable n h =
-      let m = AttenCharInd (s .config .address) c run n in
-      record { addressed = to-car; limited = sym (headed g l (headIn m) m m refl (u, h) refl .limited to-car); room = omega (arith, r .room) }
+  -- the report of a record
+  pub report-writable : (r : Record) → r .run .0 < 2 ^ 64 → r .profiles < 2 ^ 8 → length (r .sums) ≡ groupCount → writtenSize table.attenCharInd ≤ n → Writable (messageTo o c (reportOf r)) n
+  unfolding reportOf
+  report-writable r u k l h = record {
+    addressed = to-car;
+    limited = sym (fitting (AttenCharInd (o .address) c (r .run) (r .profiles)) (map (mean (r .profiles)) (r .sums)) (u, k) (length-map (r .sums) (mean (r .profiles)) ∙ l) to-car);
+    room = h;
+  }
 
   -- MATCH.CNF
-  pub match-cnf-writable : s .config .nmk .0 < 2 ^ 64 → s .config .nmk .1 < 2 ^ 64 → Writable (messageOf (SlacMatchCnf (s .config .address) c run (s .config .nid) (s .config .nmk)) g) (length out)
-  match-cnf-writable h k =
-      let m = SlacMatchCnf (s .config .address) c run (s .config .nid) (s .config .nmk) in
-      record {
-        addressed = to-car;
-        limited = sym (headed g l (headIn m) m m refl (u, h, k) refl .limited to-car) ∙ lt-ltb (s .config .nid .0) (2 ^ 54) (r .kept .config .nid (r .good));
-        room = omega (arith, r .room);
-      }
+  pub match-cnf-writable : (run : RunId) → run .0 < 2 ^ 64 → o .nid .0 < 2 ^ 54 → o .nmk .0 < 2 ^ 64 → o .nmk .1 < 2 ^ 64 → leastOutput ≤ n → Writable (messageTo o c (matchCnf run)) n
+  unfolding noGroups
+  match-cnf-writable run u d x y h = record {
+    addressed = to-car;
+    limited = sym (fitting (SlacMatchCnf (o .address) c run (o .nid) (o .nmk)) noGroups (u, x, y) (length-replicate {A = ℕ} groupCount 0) to-car) ∙ lt-ltb (o .nid .0) (2 ^ 54) d;
+    room = omega (arith, h);
+  }

@@ -2,11 +2,11 @@
 use Prim.Native.Nat.{ℕ, zero, suc, _*_, _-_, _≤_, _<_}
 use mathlib.Core.Path.{_≡_, refl, sym, ap, ap₂, _∙_, subst}
 use mathlib.Core.Bool.{Bool, true, false, _&&_}
-use mathlib.Core.List.{List, [], map}
+use mathlib.Core.List.{List, []}
 use native.Mathlib.Omega.{arith}
 use borrow.Author.Tests.{le-leb, lt-leb}
 use lib.Dec.{eqb, leb, eqb·suc-zero}
-use lib.ListN.{length, length-map}
+use lib.ListN.{length}
 use Rattle.messages.specs.declared.CarAddress.{CarAddress}
 use Rattle.messages.specs.declared.RunId.{RunId}
 use Rattle.messages.specs.Reading.{Checked, no, yes}
@@ -31,10 +31,6 @@ use Rattle.station.specs.declared.all_records.TickedRecords.{TickedRecor
 use Rattle.station.specs.Steps.{doneAs, sharedAs, anew, Gives}
 use Rattle.station.specs.Reports.{reportSize, Ready, Ticks}
 use Rattle.station.proofs.StepLaws.{framed, no-frames, gives-as}
-
--- what owning an array of structs tells of its length
-pub length-mapped : {A B : Type 0} (f : A → B) (l : List A) (n : ℕ) → length (map f l) ≡ n → length l ≡ n
-length-mapped f l n e = sym (length-map l f) ∙ e
 
 -- ---- the order of the refusals
 

@@ -1,5 +1,5 @@
 -- The loop of a tick over the records: its invariant, and its steps.
-use Prim.Native.Nat.{ℕ, zero, suc, _+_, _*_, _-_, _≤_, _<_}
+use Prim.Native.Nat.{ℕ, _+_, _*_, _-_, _≤_, _<_}
 use mathlib.Core.Path.{_≡_, refl, sym, ap, _∙_, subst}
 use mathlib.Core.Bool.{Bool, true, false, cond}
 use mathlib.Core.List.{List, [], _∷_, _++_, append-nil}
@@ -11,24 +11,18 @@ use borrow.Rule.Slice.PartMut.{putMid, same-len-mid}
 use Rattle.messages.specs.Octets.{splice}
 use Rattle.rules.specs.declared.Configuration.{Configuration}
 use Rattle.rules.specs.declared.Record.{Record}
-use Rattle.rules.specs.Lists.{All, joins}
+use Rattle.rules.specs.Lists.{joins}
 use Rattle.rules.specs.Outcomes.{joined}
 use Rattle.rules.specs.Replies.{reportOf, frameTo}
 use Rattle.rules.specs.Ticks.{tickRecord, tickReports, allReports}
 use Rattle.rules.specs.Invariant.{GoodRecord}
-use Rattle.rules.proofs.ListLaws.{joins-append}
+use Rattle.rules.proofs.ListLaws.{all-at, joins-append}
 use Rattle.records.specs.declared.timers.AfterTick.{AfterTick}
 use Rattle.records.specs.Timers.{afterTick}
 use Rattle.records.proofs.FillLaws.{Filled, fill-none, fill-next, fill-all}
 use Rattle.records.proofs.TimerLaws.{Reporting, reporting}
 use Rattle.station.specs.Reports.{reportSize, Reportable, Writes, Ready, Ticks}
 use Rattle.station.proofs.SpliceLaws.{splice-lent, splice-then}
-
--- what holds of every element holds of the one at a place
-pub all-at : {A : Type 0} (P : A → Type 0) (l : List A) (i : ℕ) (z : A) → All P l → i < length l → P (getD l i z)
-all-at P [] i z a h = absurd (omega arith)
-all-at P (x ∷ l) zero z a h = a .0
-all-at P (x ∷ l) (suc i) z a h = all-at P l i z (a .1) (omega arith)
 
 -- the reports of one record more
 reports-next : (o : Configuration) (e : ℕ) (l : List Record) (i : ℕ) (z : Record) → i < length l
@@ -89,7 +83,7 @@ module _ (o : Configuration) (e : ℕ) (l : List Record) (entry out : List ℕ) 
 
   -- what it reports
   told : Reporting o e (getD l i z)
-  told = reporting o e (getD l i z) good
+  told = reporting o e (getD l i z)
 
   -- what it comes to is stored
   stored : Filled (tickRecord e) l (set rs i (t .after)) (i + 1)
@@ -107,7 +101,7 @@ module _ (o : Configuration) (e : ℕ) (l : List Record) (entry out : List ℕ) 
   pub tick-reportable : t .reports ≡ true → Reportable o (getD l i z)
   tick-reportable q =
       let r : afterTick e (getD l i z) .reports ≡ true = ap (λ (x : AfterTick). x .reports) (sym et) ∙ q in
-      record { address = ready .address; car = good .car (told .held r); good = good; counted = told .counted r }
+      record { address = ready .address; car = good .car (told .held r); good = good }
 
   -- a record that does not report
   pub tick-waits : t .reports ≡ false → Ticking o e l entry out (set rs i (t .after)) k (i + 1)

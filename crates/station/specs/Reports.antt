@@ -23,7 +23,6 @@ pub record Reportable (o : Configuration) (r : Record) : Type 0 where
   pub address : isUnicast (o .address .0) ≡ true
   pub car : isUnicast (r .car .0) ≡ true
   pub good : GoodRecord r
-  pub counted : 1 ≤ r .profiles
 
 -- w stands in the output from its first octet, and is as long as a report
 pub record Writes (w entry exit : List ℕ) : Type 0 where

@@ -1,9 +1,12 @@
 // What a frame that the state takes does: by the request, at the car's record.
+use crate::admission;
+use crate::admission::Admission;
 use crate::answers;
 use crate::freeing;
 use crate::judge::OwnMessage;
 use crate::judge::Request;
-use crate::reply;
+use crate::own_record;
+use crate::sending;
 use messages::CarAddress;
 use messages::Refusal;
 use messages::RunId;
@@ -15,7 +18,6 @@ use records::requests::Kept;
 use records::requests::Verdict;
 use rules::Indication;
 use rules::JOINING_TIME;
-use rules::Phase;
 use rules::Record;
 use rules::RecordArray;
 use rules::State;
@@ -26,23 +28,22 @@ ghost use mathlib.Core.Path.{_≡_};
 ghost use mathlib.Core.List.{[], _∷_};
 ghost use lib.ListN.{length, set};
 ghost use Rattle.messages.specs.Reading.{yes, groupsOf, readRules};
-ghost use Rattle.rules.specs.Invariant.{GoodRecord};
 ghost use Rattle.rules.specs.Records.{owned, fresh};
 ghost use Rattle.rules.specs.Received.{forRecord, parmReq, matchReq};
 ghost use Rattle.rules.specs.Frames.{stateRule};
 ghost use Rattle.rules.specs.Replies.{parmCnf, framesTo};
 ghost use Rattle.rules.specs.Stations.{done};
-ghost use Rattle.records.specs.Requests.{Keeps, effectOf};
+ghost use Rattle.records.specs.Requests.{effectOf};
 ghost use Rattle.station.specs.Judge.{requestOf, ownMessageOf};
-ghost use Rattle.station.specs.Frames.{Ready, Comes, Sendable, ownRule, settled, joinRule};
+ghost use Rattle.station.specs.Frames.{Ready, Comes, KeepsGood, settled, joinRule};
 
-// The records with the car's record at place i.
-fn with_own(records: RecordArray, i: usize, car: CarAddress, r: Record) -> RecordArray
+// The records with another one at place i.
+fn with_record(records: RecordArray, i: usize, r: Record) -> RecordArray
     requires { ⌜ i < length records ⌝ }
-    ensures { λ rs. ⌜ rs ≡ set records i (owned car r) ⌝ }
+    ensures { λ rs. ⌜ rs ≡ set records i r ⌝ }
 {
     let mut rs = records;
-    rs[i] = changes::owned(car, r);
+    rs[i] = r;
     rs
 }
 
@@ -52,8 +53,9 @@ fn admit(station: Station, i: usize, car: CarAddress, run: RunId, out: &mut [u8]
     ensures { λ r. ⌜ Comes station (yes (done (station .state) (set (station .records) i (owned car (fresh car run))) (framesTo (station .config) car (parmCnf run ∷ [])) Indication.Nothing)) (now (out .entry)) (now (out .exit)) r ⌝ }
 {
     let records = station.records;
-    let next = with_own(records, i, car, changes::fresh(car, run));
-    reply::parm_cnf(station, next, car, run, out)
+    let r = changes::owned(car, changes::fresh(car, run));
+    let next = with_record(records, i, r);
+    sending::parm_cnf(station, next, car, run, out)
 }
 
 // PARM.REQ: the car's own record restarts; else 9, 10, or the first free record.
@@ -67,71 +69,34 @@ fn parm_req(station: Station, car: CarAddress, run: RunId, out: &mut [u8]) -> St
     };
     let records = station.records;
     let found = records::find::find(records, car);
-    match found {
-        Found::Own(i) => admit(station, i, car, run, out),
-        Found::Free(i) => {
-            if left == 0 {
-                answers::refused(station, Refusal::AdmissionClosed)
-            } else {
-                admit(station, i, car, run, out)
-            }
-        }
-        Found::Nothing => {
-            if left == 0 {
-                answers::refused(station, Refusal::AdmissionClosed)
-            } else {
-                answers::refused(station, Refusal::RecordsFull)
-            }
-        }
-    }
-}
-
-// PROFILE at the car's record: its group values are read from the frame only where it is accepted.
-fn profile(r: Record, octets: &[u8]) -> Kept
-    requires { ⌜ GoodRecord r ⌝ }
-    ensures { λ k. ⌜ Keeps r (ownRule OwnMessage.Profile (groupsOf (readRules (now (octets .entry)))) r) k ⌝ }
-{
-    let phase = r.phase;
-    let Phase::Sounding(_) = phase else {
-        return Kept {
-            kept: r,
-            effect: Effect::Refused(Refusal::WrongPhase),
-        };
-    };
-    requests::profile(r, messages::groups(octets))
-}
-
-// START, SOUND, RSP or PROFILE at the car's record.
-fn at_record(r: Record, message: OwnMessage, octets: &[u8]) -> Kept
-    requires { ⌜ GoodRecord r ⌝ }
-    ensures { λ k. ⌜ Keeps r (ownRule message (groupsOf (readRules (now (octets .entry)))) r) k ⌝ }
-{
-    match message {
-        OwnMessage::Run { run, message } => requests::at_run(r, run, message),
-        OwnMessage::Profile => profile(r, octets),
+    let admission = admission::place_for(found, left);
+    match admission {
+        Admission::At(i) => admit(station, i, car, run, out),
+        Admission::Refused(refusal) => answers::refused(station, refusal),
     }
 }
 
 // What a message at the record at place i comes to: a refusal, the record put back, or its report too.
 fn settle(station: Station, i: usize, car: CarAddress, kept: Kept, out: &mut [u8]) -> Stepped
-    requires { ⌜ (i < length (station .records)) × Ready station car (now out) × Sendable (effectOf (kept .kept) (kept .effect)) ⌝ }
+    requires { ⌜ (i < length (station .records)) × Ready station car (now out) × KeepsGood car (effectOf (kept .kept) (kept .effect)) ⌝ }
     ensures { λ r. ⌜ Comes station (settled station i car (effectOf (kept .kept) (kept .effect))) (now (out .entry)) (now (out .exit)) r ⌝ }
 {
-    let r = kept.kept;
+    let left = kept.kept;
     let effect = kept.effect;
     let records = station.records;
+    let r = changes::owned(car, left);
     match effect {
         Effect::Refused(refusal) => answers::refused(station, refusal),
         Effect::NoReply => {
             let state = station.state;
             let pilot = station.pilot;
-            let next = with_own(records, i, car, r);
+            let next = with_record(records, i, r);
             let after = answers::anew(station, pilot, station.clock, state, next);
             answers::done(after, 0, 0, Indication::Nothing)
         }
         Effect::Report => {
-            let next = with_own(records, i, car, r);
-            reply::report(station, next, car, r, out)
+            let next = with_record(records, i, r);
+            sending::report(station, next, car, r, out)
         }
     }
 }
@@ -157,7 +122,7 @@ fn at_own(
         return answers::refused(station, Refusal::NoRecord);
     };
     let r = records[i];
-    let kept = at_record(r, message, octets);
+    let kept = own_record::at_record(r, message, octets);
     settle(station, i, car, kept, out)
 }
 
@@ -181,7 +146,7 @@ fn join(station: Station, car: CarAddress, run: RunId, out: &mut [u8]) -> Steppe
                 car: car,
                 run: run,
             };
-            reply::match_cnf(station, joining, freeing::free_all(records), car, run, out)
+            sending::match_cnf(station, joining, freeing::free_all(records), car, run, out)
         }
     }
 }
@@ -201,7 +166,7 @@ fn match_req(station: Station, car: CarAddress, run: RunId, out: &mut [u8]) -> S
         } => {
             if (car.0 == owner.0) & (run.0 == own.0) {
                 let records = station.records;
-                reply::match_cnf(station, state, records, car, run, out)
+                sending::match_cnf(station, state, records, car, run, out)
             } else {
                 answers::refused(station, Refusal::NoRecord)
             }

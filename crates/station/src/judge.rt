@@ -63,6 +63,16 @@ fn for_us(config: Configuration, ours: bool, car: CarAddress, request: Request) 
     }
 }
 
+// START, SOUND or RSP of a run.
+fn of_run(run: RunId, message: RunMessage) -> Request
+    ensures { λ q. ⌜ q ≡ Request.Own (OwnMessage.Run run message) ⌝ }
+{
+    Request::Own(OwnMessage::Run {
+        run: run,
+        message: message,
+    })
+}
+
 // By the message: 17 where only a car receives it, then 7.
 fn addressed(config: Configuration, message: Message) -> Judged
     ensures { λ j. ⌜ ((g : List ℕ) → judgedOf j g ≡ addressedRule config (messageOf message g)) ⌝ }
@@ -71,38 +81,19 @@ fn addressed(config: Configuration, message: Message) -> Judged
     let modem = config.modem;
     match message {
         Message::SlacParmReq { car, run } => for_us(config, true, car, Request::Parm(run)),
-        Message::StartAttenCharInd { car, run } => for_us(
-            config,
-            true,
-            car,
-            Request::Own(OwnMessage::Run {
-                run: run,
-                message: RunMessage::Start,
-            }),
-        ),
+        Message::StartAttenCharInd { car, run } => {
+            for_us(config, true, car, of_run(run, RunMessage::Start))
+        }
         Message::MnbcSoundInd {
             car,
             count,
             run,
             random: _,
-        } => for_us(
-            config,
-            true,
-            car,
-            Request::Own(OwnMessage::Run {
-                run: run,
-                message: RunMessage::Sound(count),
-            }),
-        ),
-        Message::AttenCharRsp { car, station, run } => for_us(
-            config,
-            station.0 == us.0,
-            car,
-            Request::Own(OwnMessage::Run {
-                run: run,
-                message: RunMessage::Rsp,
-            }),
-        ),
+        } => for_us(config, true, car, of_run(run, RunMessage::Sound(count))),
+        Message::AttenCharRsp { car, station, run } => {
+            let ours = station.0 == us.0;
+            for_us(config, ours, car, of_run(run, RunMessage::Rsp))
+        }
         Message::SlacMatchReq { car, station, run } => {
             for_us(config, station.0 == us.0, car, Request::Match(run))
         }
@@ -110,12 +101,10 @@ fn addressed(config: Configuration, message: Message) -> Judged
             modem: source,
             station,
             car,
-        } => for_us(
-            config,
-            (station.0 == us.0) & (source.0 == modem.0),
-            car,
-            Request::Own(OwnMessage::Profile),
-        ),
+        } => {
+            let ours = (station.0 == us.0) & (source.0 == modem.0);
+            for_us(config, ours, car, Request::Own(OwnMessage::Profile))
+        }
         _ => Judged::Refused(Refusal::OnlyForCars),
     }
 }

@@ -1,12 +1,15 @@
 // A charging station's calls, by value: each gives the station afterwards and an answer.
+pub mod admission;
 mod all_records;
 mod answers;
 mod events;
 mod frames;
 mod freeing;
 pub mod judge;
-mod reply;
+pub mod own_record;
+pub mod reply;
 mod reports;
+mod sending;
 mod ticks;
 
 use judge::Judged;

@@ -1,143 +1,53 @@
-// The replies to a car: PARM.CNF, the report ATTEN_CHAR.IND, MATCH.CNF.
-use crate::answers;
+// The messages of the replies to a car: PARM.CNF, the report ATTEN_CHAR.IND, MATCH.CNF.
 use messages::CarAddress;
-use messages::GROUPS;
-use messages::GroupValues;
 use messages::Message;
 use messages::RunId;
-use messages::Written;
-use rules::Indication;
+use rules::Configuration;
 use rules::Record;
-use rules::RecordArray;
-use rules::State;
-use rules::Station;
-use rules::Stepped;
-ghost use Prim.Native.Nat.{_≤_};
+ghost use Prim.Native.Nat.{ℕ};
 ghost use mathlib.Core.Path.{_≡_};
-ghost use mathlib.Core.List.{[], _∷_};
-ghost use lib.ListN.{length};
+ghost use mathlib.Core.List.{List, map};
 ghost use Rattle.messages.specs.Answers.{messageOf};
-ghost use Rattle.messages.specs.Octets.{splice};
-ghost use Rattle.messages.specs.Reading.{yes, noGroups};
-ghost use Rattle.messages.specs.Writing as writing;
-ghost use Rattle.rules.specs.Invariant.{GoodRecord};
-ghost use Rattle.rules.specs.Replies.{parmCnf, matchCnf, reportOf, framesTo};
-ghost use Rattle.rules.specs.Stations.{done};
-ghost use Rattle.station.specs.Frames.{Writable, Ready, Comes};
+ghost use Rattle.rules.specs.Replies.{mean, parmCnf, matchCnf, reportOf, messageTo};
 
-// Zeros where a message has no group values.
-fn no_values() -> GroupValues
-    ensures { λ v. ⌜ v ≡ noGroups ⌝ }
+// PARM.CNF of a run.
+pub fn parm_cnf(config: Configuration, car: CarAddress, run: RunId) -> Message
+    ensures { λ m. ⌜ ((g : List ℕ) → messageOf m g ≡ messageTo config car (parmCnf run)) ⌝ }
 {
-    [0; GROUPS]
-}
-
-// Writes a message that can be written from the output's first octet, and gives its octets' number.
-fn send(message: Message, values: GroupValues, out: &mut [u8]) -> usize
-    requires { ⌜ Writable (messageOf message values) (length (now out)) ⌝ }
-    ensures { λ n. ⌜ n ≡ length (writing.frame (messageOf message values)) ⌝ }
-    ensures { λ n. ⌜ now (out .exit) ≡ splice 0 (writing.frame (messageOf message values)) (now (out .entry)) ⌝ }
-{
-    let written = messages::write(message, values, out);
-    let Written::Octets(octets) = written else {
-        return 0;
-    };
-    octets
-}
-
-// The station in a state and with records, and one frame sent.
-fn sent(
-    station: Station,
-    state: State,
-    records: RecordArray,
-    message: Message,
-    values: GroupValues,
-    out: &mut [u8],
-) -> Stepped
-    requires { ⌜ Writable (messageOf message values) (length (now out)) ⌝ }
-    ensures { λ r. ⌜ Comes station (yes (done state records (writing.frame (messageOf message values) ∷ []) Indication.Nothing)) (now (out .entry)) (now (out .exit)) r ⌝ }
-{
-    let pilot = station.pilot;
-    let next = answers::anew(station, pilot, station.clock, state, records);
-    let octets = send(message, values, out);
-    answers::done(next, 1, octets, Indication::Nothing)
-}
-
-// PARM.CNF to a car, with the records after it.
-pub(crate) fn parm_cnf(
-    station: Station,
-    records: RecordArray,
-    car: CarAddress,
-    run: RunId,
-    out: &mut [u8],
-) -> Stepped
-    requires { ⌜ Ready station car (now out) ⌝ }
-    ensures { λ r. ⌜ Comes station (yes (done (station .state) records (framesTo (station .config) car (parmCnf run ∷ [])) Indication.Nothing)) (now (out .entry)) (now (out .exit)) r ⌝ }
-{
-    let config = station.config;
-    let state = station.state;
     let us = config.address;
-    let message = Message::SlacParmCnf {
+    Message::SlacParmCnf {
         station: us,
         car: car,
         run: run,
-    };
-    sent(station, state, records, message, no_values(), out)
+    }
 }
 
-// The report of a record to a car, with the records after it.
-pub(crate) fn report(
-    station: Station,
-    records: RecordArray,
-    car: CarAddress,
-    r: Record,
-    out: &mut [u8],
-) -> Stepped
-    requires { ⌜ Ready station car (now out) × GoodRecord r × (1 ≤ r .profiles) ⌝ }
-    ensures { λ x. ⌜ Comes station (yes (done (station .state) records (framesTo (station .config) car (reportOf r ∷ [])) Indication.Nothing)) (now (out .entry)) (now (out .exit)) x ⌝ }
+// The report of a record, to which its group values belong.
+pub fn report(config: Configuration, car: CarAddress, r: Record) -> Message
+    ensures { λ m. ⌜ messageOf m (map (mean (r .profiles)) (r .sums)) ≡ messageTo config car (reportOf r) ⌝ }
 {
-    let config = station.config;
-    let state = station.state;
     let us = config.address;
     let run = r.run;
-    let message = Message::AttenCharInd {
+    Message::AttenCharInd {
         station: us,
         car: car,
         run: run,
         sounds: r.profiles,
-    };
-    sent(
-        station,
-        state,
-        records,
-        message,
-        records::report::values(r),
-        out,
-    )
+    }
 }
 
-// MATCH.CNF to a car, with the state and the records after it.
-pub(crate) fn match_cnf(
-    station: Station,
-    state: State,
-    records: RecordArray,
-    car: CarAddress,
-    run: RunId,
-    out: &mut [u8],
-) -> Stepped
-    requires { ⌜ Ready station car (now out) ⌝ }
-    ensures { λ r. ⌜ Comes station (yes (done state records (framesTo (station .config) car (matchCnf run ∷ [])) Indication.Nothing)) (now (out .entry)) (now (out .exit)) r ⌝ }
+// MATCH.CNF of a run.
+pub fn match_cnf(config: Configuration, car: CarAddress, run: RunId) -> Message
+    ensures { λ m. ⌜ ((g : List ℕ) → messageOf m g ≡ messageTo config car (matchCnf run)) ⌝ }
 {
-    let config = station.config;
     let us = config.address;
     let nid = config.nid;
     let nmk = config.nmk;
-    let message = Message::SlacMatchCnf {
+    Message::SlacMatchCnf {
         station: us,
         car: car,
         run: run,
         nid: nid,
         nmk: nmk,
-    };
-    sent(station, state, records, message, no_values(), out)
+    }
 }

@@ -1,5 +1,5 @@
 // A record's report, written.
-use messages::Message;
+use crate::reply;
 use records::report;
 use rules::Configuration;
 use rules::Record;
@@ -13,15 +13,7 @@ pub(crate) fn write_report(config: Configuration, r: Record, out: &mut [u8])
     requires { ⌜ Reportable config r × (reportSize ≤ length (now out)) ⌝ }
     ensures { λ _. ⌜ Writes (frameTo config (r .car) (reportOf r)) (now (out .entry)) (now (out .exit)) ⌝ }
 {
-    let station = config.address;
     let car = r.car;
-    let run = r.run;
-    let values = report::values(r);
-    let message = Message::AttenCharInd {
-        station: station,
-        car: car,
-        run: run,
-        sounds: r.profiles,
-    };
-    messages::write(message, values, out);
+    let message = reply::report(config, car, r);
+    messages::write(message, report::values(r), out);
 }

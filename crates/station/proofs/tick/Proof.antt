@@ -5,7 +5,8 @@ use lib.ListN.{length}
 use Rattle.messages.specs.declared.Refusal.the-variants.{OutputTooShort, TickGap}
 use Rattle.rules.specs.Constants.{recordCount}
 use Rattle.station.proofs.StepLaws.{accepted, refuses, unconfigured}
-use Rattle.station.proofs.TickLaws.{length-mapped, tick-short, tick-gap, tick-rule, tick-shared, tick-ready}
+use Rattle.records.proofs.LoopLaws.{length-mapped}
+use Rattle.station.proofs.TickLaws.{tick-short, tick-gap, tick-rule, tick-shared, tick-ready}
 use borrow.Author.Needs.{needs}
 use Rattle.station.proofs.tick.Statement.{statement}
 use Rattle.station.proofs.tick.Tie as tie

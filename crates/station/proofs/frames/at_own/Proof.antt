@@ -9,7 +9,8 @@ use Rattle.rules.specs.Invariant.{GoodRecord}
 use Rattle.rules.specs.declared.Record.{Record}
 use Rattle.station.proofs.ComesLaws.{comes-as, comes-refused, state-other}
 use Rattle.station.proofs.OwnLaws.{own-none, own-settled}
-use Rattle.station.proofs.SendableLaws.{all-at, octet-groups, kept-sendable}
+use Rattle.rules.proofs.ListLaws.{all-at}
+use Rattle.station.proofs.KeptLaws.{kept-good}
 use borrow.Author.Needs.{needs}
 use lib.ListN.{getD, length}
 use mathlib.Core.Path.{_≡_}
@@ -61,8 +62,9 @@ at-record-requires c κs = good c _
 
 settle-requires : tie.Need-settle-requires
 settle-requires c κs =
-    let a = c .before .before .before .before .before .before .before .before .before .before .before .before .args in
-    (here (c .before .before .before) .inside, c .before .before .before .before .before .before .before .before .before .before .before .before .pre, kept-sendable (a .message) (groupsOf (readRules (a .octets .now))) _ (c .before .at-record .result) (c .before .at-record .ensures) (good (c .before .before) _) (octet-groups (a .octets .now) (λ i. c .before .before .before .before .before .before .before .before .before .before .before .shared-slice-known .given i .fits)))
+    let s = c .before .before .before .before .before .before .before .before .before .before .before .before in
+    let a = s .args in
+    (here (c .before .before .before) .inside, s .pre, kept-good (a .car) (a .message) (a .octets .now) _ (c .before .at-record .result) (c .before .at-record .ensures) (s .pre .car) (good (c .before .before) _) (λ i. c .before .before .before .before .before .before .before .before .before .before .before .shared-slice-known .given i .fits))
 
 same-length : tie.Need-same-length
 same-length c = search needs

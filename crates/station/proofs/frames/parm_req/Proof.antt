@@ -1,10 +1,11 @@
--- `station::frames::parm_req` meets its contract, by the place that was found.
-use Rattle.messages.specs.declared.Refusal.the-variants.{WrongState, AdmissionClosed, RecordsFull}
-use Rattle.records.proofs.PlaceLaws.{OwnAt, FreeAt, NoneAt, found}
-use Rattle.records.specs.declared.find.Found.the-variants.{Own, Free, Nothing}
-use Rattle.rules.specs.Records.{fresh}
+-- `station::frames::parm_req` meets its contract, by what is answered of the place.
+use Rattle.messages.specs.declared.Refusal.the-variants.{WrongState}
+use Rattle.rules.specs.Outcomes.{andThen}
 use Rattle.station.proofs.ComesLaws.{comes-as, comes-refused, state-other}
-use Rattle.station.proofs.ParmLaws.{asked-own, asked-free, asked-closed, asked-full}
+use Rattle.station.proofs.ParmLaws.{admits, parm-answered, parm-inside}
+use Rattle.station.specs.Frames.{admissionOf}
+use Rattle.station.specs.declared.admission.Admission.{Admission}
+use mathlib.Core.Path.{sym, ap, _∙_}
 use borrow.Author.Needs.{needs}
 use Rattle.station.proofs.frames.parm_req.Statement.{statement}
 use Rattle.station.proofs.frames.parm_req.Tie as tie
@@ -16,77 +17,47 @@ refused-requires : tie.Need-refused-requires
 refused-requires c κs = search needs
 
 returns : tie.Need-returns
-returns c = let a = c .before .before .before .args in comes-refused (a .station) _ WrongState (a .out .now) (c .refused .result) (state-other (a .station .config) (a .station .state) (a .station .records) (a .car) _ (c .before .match .keys2)) (c .refused .ensures)
+returns c =
+    let a = c .before .before .before .args in
+    comes-refused (a .station) _ WrongState (a .out .now) (c .refused .result) (state-other (a .station .config) (a .station .state) (a .station .records) (a .car) _ (c .before .match .keys2)) (c .refused .ensures)
 
 find-requires : tie.Need-find-requires
 find-requires c κs = search needs
 
-enum-known-found : tie.Need-enum-known-found
-enum-known-found c = search needs
+place-for-requires : tie.Need-place-for-requires
+place-for-requires c κs = search needs
 
--- the car's own place
-own-here : (c : tie.After-known-told2) → OwnAt (c .before .before .before .before .before .before .before .before .before .args .car) (c .before .before .before .before .before .before .before .before .before .args .station .records) (c .before .found .given .0 .0)
-own-here c = found (c .before .before .before .before .before .before .before .before .before .args .car) (c .before .before .before .before .before .before .before .before .before .args .station .records) (c .before .before .before .find .result) (Own (c .before .found .given .0 .0)) (c .before .before .before .find .ensures) (c .before .found .given .1)
-
--- the first free place
-free-here : (c : tie.After-known-told3) → FreeAt (c .before .before .before .before .before .before .before .before .before .args .car) (c .before .before .before .before .before .before .before .before .before .args .station .records) (c .before .found2 .given .0 .0)
-free-here c = found (c .before .before .before .before .before .before .before .before .before .args .car) (c .before .before .before .before .before .before .before .before .before .args .station .records) (c .before .before .before .find .result) (Free (c .before .found2 .given .0 .0)) (c .before .before .before .find .ensures) (c .before .found2 .given .1)
-
--- no place
-none-here : (c : tie.After-enum-told) → NoneAt (c .before .before .before .before .before .before .before .before .args .car) (c .before .before .before .before .before .before .before .before .args .station .records)
-none-here c = found (c .before .before .before .before .before .before .before .before .args .car) (c .before .before .before .before .before .before .before .before .args .station .records) (c .before .before .find .result) Nothing (c .before .before .find .ensures) (c .enum-told .given .1)
+enum-known-admission : tie.Need-enum-known-admission
+enum-known-admission c = search needs
 
 admit-requires : tie.Need-admit-requires
-admit-requires c κs = (own-here (c .before) .inside, c .before .before .before .before .before .before .before .before .before .before .pre)
+admit-requires c κs =
+    let s = c .before .before .before .before .before .before .before .before .before .before .before in
+    let a = s .args in
+    (parm-inside (a .station .config) (a .station .state) (a .station .records) (a .car) (a .run) _ (c .before .before .before .before .before .before .before .before .state .given .1) (c .before .before .before .before .before .find .result) (c .before .before .before .before .before .find .ensures) (c .before .before .before .before .place-for .result) (c .before .before .before .before .place-for .ensures) _ (c .before .before .admission .given .1), s .pre)
 
-enum-known-found-2 : tie.Need-enum-known-found-2
-enum-known-found-2 c = search needs
+enum-known-admission-2 : tie.Need-enum-known-admission-2
+enum-known-admission-2 c = search needs
 
 refused-requires-2 : tie.Need-refused-requires-2
 refused-requires-2 c κs = search needs
-
-admit-requires-2 : tie.Need-admit-requires-2
-admit-requires-2 c κs = (free-here (c .before .before) .inside, c .before .before .before .before .before .before .before .before .before .before .before .pre)
-
-enum-told : tie.Need-enum-told
-enum-told c = search needs
-
-refused-requires-3 : tie.Need-refused-requires-3
-refused-requires-3 c κs = search needs
-
-refused-requires-4 : tie.Need-refused-requires-4
-refused-requires-4 c κs = search needs
 
 same-length : tie.Need-same-length
 same-length c = search needs
 
 returns-2 : tie.Need-returns-2
 returns-2 c =
-    let a = c .before .before .before .before .before .before .before .before .before .before .before .before .before .args in
-    comes-as (a .station) _ _ (a .out .now) _ (c .before .before .admit .result) (asked-own (a .station .config) (a .station .state) (a .station .records) (a .car) (a .run) _ (c .before .before .before .before .before .before .before .before .before .before .state .given .1) _ (fresh (a .car) (a .run)) (own-here (c .before .before .before .before))) (c .before .before .admit .ensures)
+    let a = c .before .before .before .before .before .before .before .before .before .before .before .before .before .before .args in
+    comes-as (a .station) _ _ (a .out .now) _ (c .before .before .admit .result)
+    (sym (parm-answered (a .station .config) (a .station .state) (a .station .records) (a .car) (a .run) _ (c .before .before .before .before .before .before .before .before .before .before .before .state .given .1) (c .before .before .before .before .before .before .before .before .find .result) (c .before .before .before .before .before .before .before .before .find .ensures) (c .before .before .before .before .before .before .before .place-for .result) (c .before .before .before .before .before .before .before .place-for .ensures) ∙ ap (λ (x : Admission). andThen (admissionOf x) (admits (a .station .config) (a .station .state) (a .station .records) (a .car) (a .run) _ (c .before .before .before .before .before .before .before .before .before .before .before .state .given .1))) (c .before .before .before .before .before .admission .given .1)))
+    (c .before .before .admit .ensures)
 
 returns-3 : tie.Need-returns-3
 returns-3 c =
     let a = c .before .before .before .before .before .before .before .before .before .before .before .args in
-    comes-refused (a .station) _ AdmissionClosed (a .out .now) (c .refused2 .result) (asked-closed (a .station .config) (a .station .state) (a .station .records) (a .car) (a .run) _ (c .before .before .before .before .before .before .before .before .state .given .1) (free-here (c .before .before) .mine) (c .before .if1 .taken)) (c .refused2 .ensures)
-
-same-length-2 : tie.Need-same-length-2
-same-length-2 c = search needs
-
-returns-4 : tie.Need-returns-4
-returns-4 c =
-    let a = c .before .before .before .before .before .before .before .before .before .before .before .before .before .before .args in
-    comes-as (a .station) _ _ (a .out .now) _ (c .before .before .admit2 .result) (asked-free (a .station .config) (a .station .state) (a .station .records) (a .car) (a .run) _ (c .before .before .before .before .before .before .before .before .before .before .before .state .given .1) _ (c .before .before .before .before .if1 .left) (free-here (c .before .before .before .before .before))) (c .before .before .admit2 .ensures)
-
-returns-5 : tie.Need-returns-5
-returns-5 c =
-    let a = c .before .before .before .before .before .before .before .before .before .before .args in
-    comes-refused (a .station) _ AdmissionClosed (a .out .now) (c .refused3 .result) (asked-closed (a .station .config) (a .station .state) (a .station .records) (a .car) (a .run) _ (c .before .before .before .before .before .before .before .state .given .1) (none-here (c .before .before) .mine) (c .before .if2 .taken)) (c .refused3 .ensures)
-
-returns-6 : tie.Need-returns-6
-returns-6 c =
-    let a = c .before .before .before .before .before .before .before .before .before .before .args in
-    comes-refused (a .station) _ RecordsFull (a .out .now) (c .refused4 .result) (asked-full (a .station .config) (a .station .state) (a .station .records) (a .car) (a .run) _ (c .before .before .before .before .before .before .before .state .given .1) (none-here (c .before .before) .mine) (c .before .if2 .left) (none-here (c .before .before) .free)) (c .refused4 .ensures)
+    comes-refused (a .station) _ _ (a .out .now) (c .refused2 .result)
+    (parm-answered (a .station .config) (a .station .state) (a .station .records) (a .car) (a .run) _ (c .before .before .before .before .before .before .before .before .state .given .1) (c .before .before .before .before .before .find .result) (c .before .before .before .before .before .find .ensures) (c .before .before .before .before .place-for .result) (c .before .before .before .before .place-for .ensures) ∙ ap (λ (x : Admission). andThen (admissionOf x) (admits (a .station .config) (a .station .state) (a .station .records) (a .car) (a .run) _ (c .before .before .before .before .before .before .before .before .state .given .1))) (c .before .before .admission2 .given .1))
+    (c .refused2 .ensures)
 
 pub parm-req-spec : {M : Type 1} → statement M
 parm-req-spec =
@@ -96,18 +67,11 @@ parm-req-spec =
     refused-requires
     returns
     find-requires
-    enum-known-found
+    place-for-requires
+    enum-known-admission
     admit-requires
-    enum-known-found-2
+    enum-known-admission-2
     refused-requires-2
-    admit-requires-2
-    enum-told
-    refused-requires-3
-    refused-requires-4
     same-length
     returns-2
-    returns-3
-    same-length-2
-    returns-4
-    returns-5
-    returns-6)
+    returns-3)

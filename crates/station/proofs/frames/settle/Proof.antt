@@ -2,17 +2,23 @@
 use Rattle.messages.specs.Reading.{yes}
 use Rattle.records.specs.Requests.{effectOf}
 use Rattle.records.specs.declared.requests.Effect.{Effect}
-use Rattle.rules.specs.Replies.{reportOf, framesTo}
+use Rattle.rules.specs.Invariant.{GoodRecord}
+use Rattle.rules.specs.Replies.{Reply, reportOf, framesTo}
 use Rattle.rules.specs.Stations.{done}
 use Rattle.rules.specs.declared.Indication.the-variants.{Nothing}
 use Rattle.rules.specs.declared.Record.{Record}
 use Rattle.station.proofs.ComesLaws.{comes-as, comes-refused, comes-silent}
-use Rattle.station.specs.Frames.{Sendable, settled}
-use borrow.Author.Needs.{needs}
+use Rattle.station.proofs.OwnLaws.{report-owned}
+use Rattle.station.specs.Frames.{KeepsGood, settled}
+use lib.ListN.{set}
 use mathlib.Core.List.{List, [], _∷_}
-use mathlib.Core.Path.{sym, ap, _∙_, subst}
+use mathlib.Core.Path.{sym, ap, ap₂, _∙_, subst}
+use borrow.Author.Needs.{needs}
 use Rattle.station.proofs.frames.settle.Statement.{statement}
 use Rattle.station.proofs.frames.settle.Tie as tie
+
+owned-requires : tie.Need-owned-requires
+owned-requires c κs = search needs
 
 enum-known-effect : tie.Need-enum-known-effect
 enum-known-effect c = search needs
@@ -23,8 +29,8 @@ refused-requires c κs = search needs
 enum-told : tie.Need-enum-told
 enum-told c = search needs
 
-with-own-requires : tie.Need-with-own-requires
-with-own-requires c κs = search needs
+with-record-requires : tie.Need-with-record-requires
+with-record-requires c κs = search needs
 
 anew-requires : tie.Need-anew-requires
 anew-requires c κs = search needs
@@ -35,33 +41,36 @@ done-requires c κs = search needs
 enum-told-2 : tie.Need-enum-told-2
 enum-told-2 c = search needs
 
-with-own-requires-2 : tie.Need-with-own-requires-2
-with-own-requires-2 c κs = search needs
+with-record-requires-2 : tie.Need-with-record-requires-2
+with-record-requires-2 c κs = search needs
 
 report-requires : tie.Need-report-requires
 report-requires c κs =
-    let s = c .before .before .before .before .before .before .before in
+    let s = c .before .before .before .before .before .before .before .before in
     let a = s .args in
-    let sendable = subst (λ (x : Effect). Sendable (effectOf (a .kept .kept) x)) (c .before .before .enum-told2 .given .1) (s .pre .2) in
-    (s .pre .1, sendable .0, sendable .1)
+    (s .pre .1, subst GoodRecord (sym (c .before .before .before .before .owned .ensures)) (subst (λ (x : Effect). KeepsGood (a .car) (effectOf (a .kept .kept) x)) (c .before .before .enum-told2 .given .1) (s .pre .2)))
 
 returns : tie.Need-returns
-returns c = let a = c .before .before .before .before .before .before .before .args in comes-refused (a .station) _ _ (a .out .now) (c .refused .result) (ap (λ (x : Effect). settled (a .station) (a .i) (a .car) (effectOf (a .kept .kept) x)) (c .before .before .effect .given .1)) (c .refused .ensures)
+returns c =
+    let a = c .before .before .before .before .before .before .before .before .args in
+    comes-refused (a .station) _ _ (a .out .now) (c .refused .result) (ap (λ (x : Effect). settled (a .station) (a .i) (a .car) (effectOf (a .kept .kept) x)) (c .before .before .effect .given .1)) (c .refused .ensures)
 
 returns-2 : tie.Need-returns-2
 returns-2 c =
-    let a = c .before .before .before .before .before .before .before .before .args in
+    let a = c .before .before .before .before .before .before .before .before .before .args in
     comes-as (a .station) _ _ (a .out .now) _ (c .done .result) (sym (ap (λ (x : Effect). settled (a .station) (a .i) (a .car) (effectOf (a .kept .kept) x)) (c .before .before .before .enum-told .given .1)))
-    (comes-silent (a .station) _ _ (c .before .anew .result) (a .out .now) (c .done .result) (c .before .before .with-own .ensures) (c .before .anew .ensures) (c .done .ensures))
+    (comes-silent (a .station) _ _ (c .before .anew .result) (a .out .now) (c .done .result) (c .before .before .with-record .ensures ∙ ap (set (a .station .records) (a .i)) (c .before .before .before .before .before .owned .ensures)) (c .before .anew .ensures) (c .done .ensures))
 
 same-length : tie.Need-same-length
 same-length c = search needs
 
 returns-3 : tie.Need-returns-3
 returns-3 c =
-    let a = c .before .before .before .before .before .before .before .before .before .before .args in
+    let a = c .before .before .before .before .before .before .before .before .before .before .before .args in
+    let own = c .before .before .before .before .before .before .before .owned .ensures in
     comes-as (a .station) _ _ (a .out .now) _ (c .before .before .report .result)
-    (ap (λ (l : List Record). yes (done (a .station .state) l (framesTo (a .station .config) (a .car) (reportOf (a .kept .kept) ∷ [])) Nothing)) (c .before .before .before .before .with-own2 .ensures)
+    (ap₂ (λ (l : List Record) (t : Reply). yes (done (a .station .state) l (framesTo (a .station .config) (a .car) (t ∷ [])) Nothing))
+    (c .before .before .before .before .with-record2 .ensures ∙ ap (set (a .station .records) (a .i)) own) (ap reportOf own ∙ report-owned (a .car) (a .kept .kept))
     ∙ sym (ap (λ (x : Effect). settled (a .station) (a .i) (a .car) (effectOf (a .kept .kept) x)) (c .before .before .before .before .before .enum-told2 .given .1)))
     (c .before .before .report .ensures)
 
@@ -69,14 +78,15 @@ pub settle-spec : {M : Type 1} → statement M
 settle-spec =
     tie.close
     (tie.spec
+    owned-requires
     enum-known-effect
     refused-requires
     enum-told
-    with-own-requires
+    with-record-requires
     anew-requires
     done-requires
     enum-told-2
-    with-own-requires-2
+    with-record-requires-2
     report-requires
     returns
     returns-2

@@ -1,8 +1,8 @@
--- `station::reply::sent` meets its contract: the frame that `send` writes.
+-- `station::sending::sent` meets its contract: the frame that `send` writes.
 use Rattle.station.proofs.SendLaws.{one-sent}
 use borrow.Author.Needs.{needs}
-use Rattle.station.proofs.reply.sent.Statement.{statement}
-use Rattle.station.proofs.reply.sent.Tie as tie
+use Rattle.station.proofs.sending.sent.Statement.{statement}
+use Rattle.station.proofs.sending.sent.Tie as tie
 
 anew-requires : tie.Need-anew-requires
 anew-requires c κs = search needs

@@ -1,12 +1,12 @@
--- `station::frames::profile` meets its contract: the group values are the frame's.
+-- `station::own_record::profile` meets its contract: the group values are the frame's.
 use Prim.Native.Nat.{ℕ}
 use Rattle.records.proofs.RequestLaws.{refuses, as-rule, profile-elsewhere}
 use Rattle.rules.specs.Frames.{profileRule}
 use borrow.Author.Needs.{needs}
 use mathlib.Core.List.{List}
 use mathlib.Core.Path.{ap}
-use Rattle.station.proofs.frames.profile.Statement.{statement}
-use Rattle.station.proofs.frames.profile.Tie as tie
+use Rattle.station.proofs.own_record.profile.Statement.{statement}
+use Rattle.station.proofs.own_record.profile.Tie as tie
 
 enum-told : tie.Need-enum-told
 enum-told c = search needs

@@ -1,12 +1,12 @@
--- `station::frames::at_record` meets its contract, by the message.
+-- `station::own_record::at_record` meets its contract, by the message.
 use Rattle.messages.specs.Reading.{groupsOf, readRules}
 use Rattle.records.proofs.RequestLaws.{as-rule}
 use Rattle.station.specs.Frames.{ownRule}
 use Rattle.station.specs.declared.judge.OwnMessage.{OwnMessage}
 use borrow.Author.Needs.{needs}
 use mathlib.Core.Path.{sym, ap}
-use Rattle.station.proofs.frames.at_record.Statement.{statement}
-use Rattle.station.proofs.frames.at_record.Tie as tie
+use Rattle.station.proofs.own_record.at_record.Statement.{statement}
+use Rattle.station.proofs.own_record.at_record.Tie as tie
 
 enum-known-message : tie.Need-enum-known-message
 enum-known-message c = search needs

@@ -1,9 +1,9 @@
--- `station::reply::send` meets its contract: what can be written is written.
+-- `station::sending::send` meets its contract: what can be written is written.
 use Rattle.messages.specs.Answers.{messageOf}
 use Rattle.station.proofs.SendLaws.{sent-length, sent-octets, not-refused}
 use borrow.Author.Needs.{needs}
-use Rattle.station.proofs.reply.send.Statement.{statement}
-use Rattle.station.proofs.reply.send.Tie as tie
+use Rattle.station.proofs.sending.send.Statement.{statement}
+use Rattle.station.proofs.sending.send.Tie as tie
 
 write-requires : tie.Need-write-requires
 write-requires c κs = search needs

@@ -1,0 +1,60 @@
+-- `station::sending::report` meets its contract: the message is the report.
+use Prim.Native.Nat.{_^_, _<_}
+use Rattle.messages.specs.Answers.{messageOf}
+use Rattle.messages.specs.Reading.{yes}
+use Rattle.messages.specs.Table as table
+use Rattle.messages.specs.Writing as writing
+use Rattle.rules.specs.Replies.{frameTo}
+use Rattle.rules.specs.Stations.{done}
+use Rattle.rules.specs.declared.Indication.the-variants.{Nothing}
+use Rattle.station.proofs.ComesLaws.{comes-as}
+use lib.ListN.{length}
+use mathlib.Core.List.{[], _∷_}
+use Rattle.messages.specs.Table.{groupCount}
+use Rattle.station.proofs.SendLaws.{writable-as, report-writable}
+use native.Mathlib.Omega.{arith}
+use mathlib.Core.Path.{_≡_, ap, _∙_}
+use borrow.Author.Needs.{needs}
+use Rattle.station.proofs.sending.report.Statement.{statement}
+use Rattle.station.proofs.sending.report.Tie as tie
+
+report-requires : tie.Need-report-requires
+report-requires c κs = search needs
+
+values-requires : tie.Need-values-requires
+values-requires c κs = search needs
+
+-- the run is a 64-bit number
+run-fits : (c : tie.Start) → c .args .r .run .0 < 2 ^ 64
+run-fits c = search needs
+
+-- the profiles counted are an octet
+count-fits : (c : tie.Start) → c .args .r .profiles < 2 ^ 8
+count-fits c = search needs
+
+-- and there is a sum for each group
+groups-fit : (c : tie.Start) → length (c .args .r .sums) ≡ groupCount
+groups-fit c = search needs
+
+sent-requires : tie.Need-sent-requires
+sent-requires c κs =
+    let s = c .before .before .before .before .before in
+    let a = s .args in
+    writable-as _ _ (length (a .out .now)) (ap (messageOf (c .before .before .report .result)) (c .before .values .ensures) ∙ c .before .before .report .ensures)
+    (report-writable (a .station .config) (a .car) (length (a .out .now)) (s .pre .0 .kept .config .address (s .pre .0 .good)) (s .pre .0 .car) (a .r) (run-fits s) (count-fits s) (groups-fit s) (omega (arith, s .pre .0 .room)))
+
+same-length : tie.Need-same-length
+same-length c = search needs
+
+returns : tie.Need-returns
+unfolding frameTo
+returns c =
+    let a = c .before .before .before .before .before .before .before .before .args in
+    comes-as (a .station) _ _ (a .out .now) _ (c .before .before .sent .result)
+    (ap (λ (m : table.Message). yes (done (a .station .state) (a .records) (writing.frame m ∷ []) Nothing))
+    (ap (messageOf (c .before .before .before .before .before .report .result)) (c .before .before .before .before .values .ensures) ∙ c .before .before .before .before .before .report .ensures))
+    (c .before .before .sent .ensures)
+
+pub report-spec : {M : Type 1} → statement M
+report-spec =
+    tie.close (tie.spec report-requires values-requires sent-requires same-length returns)
