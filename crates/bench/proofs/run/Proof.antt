@@ -1,0 +1,93 @@
+-- The station keeps its invariant, and the slices their lengths.
+use mathlib.Core.Path.{_≡_, sym}
+use lib.ListN.{length}
+use lib.Seq.{length-take-le}
+use borrow.Author.Needs.{needs}
+use Rattle.rules.specs.Invariant.{Invariant}
+use Rattle.bench.proofs.run.Statement.{statement}
+use Rattle.bench.proofs.run.Tie as tie
+
+abbrev Inv-loop : tie.InvT-loop
+Inv-loop count event₀ out₀ s₀ left₀ event out s left = Invariant s × ((length event ≡ length event₀) × (length out ≡ length out₀))
+
+abbrev μ-loop : tie.MeasureT-loop
+μ-loop count event₀ out₀ s₀ left₀ event out s left = left
+
+loop-holds : tie.Need-loop-holds Inv-loop μ-loop
+loop-holds c = search needs
+
+one-event-requires : tie.Need-one-event-requires Inv-loop μ-loop
+one-event-requires c κs = search needs
+
+same-length : tie.Need-same-length Inv-loop μ-loop
+same-length c = search needs
+
+same-length-2 : tie.Need-same-length-2 Inv-loop μ-loop
+same-length-2 c = search needs
+
+returns : tie.Need-returns Inv-loop μ-loop
+returns c = search needs
+
+sub-left : tie.Need-sub-left Inv-loop μ-loop
+sub-left c = search needs
+
+loop-less : tie.Need-loop-less Inv-loop μ-loop
+loop-less c = search needs
+
+loop-again : tie.Need-loop-again Inv-loop μ-loop
+loop-again c = search needs
+
+slice-relend-prefix-read-full : tie.Need-slice-relend-prefix-read-full Inv-loop μ-loop
+slice-relend-prefix-read-full c = search needs
+
+slice-aggregate-read-full : tie.Need-slice-aggregate-read-full Inv-loop μ-loop
+slice-aggregate-read-full c = sym (length-take-le 1 (c .before .before .loop .event) (search needs))
+
+read-full-requires : tie.Need-read-full-requires Inv-loop μ-loop
+read-full-requires c κs = search needs
+
+broken-requires : tie.Need-broken-requires Inv-loop μ-loop
+broken-requires c κs = search needs
+
+same-length-3 : tie.Need-same-length-3 Inv-loop μ-loop
+same-length-3 c = search needs
+
+same-length-4 : tie.Need-same-length-4 Inv-loop μ-loop
+same-length-4 c = search needs
+
+returns-2 : tie.Need-returns-2 Inv-loop μ-loop
+returns-2 c = search needs
+
+same-length-5 : tie.Need-same-length-5 Inv-loop μ-loop
+same-length-5 c = search needs
+
+same-length-6 : tie.Need-same-length-6 Inv-loop μ-loop
+same-length-6 c = search needs
+
+returns-3 : tie.Need-returns-3 Inv-loop μ-loop
+returns-3 c = search needs
+
+pub run-spec : {M : Type 1} → statement M
+run-spec =
+    tie.close
+    (tie.spec
+    Inv-loop
+    μ-loop
+    loop-holds
+    one-event-requires
+    same-length
+    same-length-2
+    returns
+    sub-left
+    loop-less
+    loop-again
+    slice-relend-prefix-read-full
+    slice-aggregate-read-full
+    read-full-requires
+    broken-requires
+    same-length-3
+    same-length-4
+    returns-2
+    same-length-5
+    same-length-6
+    returns-3)

@@ -1,0 +1,50 @@
+-- A part of the output is lent.
+use Rattle.script.specs.Promises.{replyOctets}
+use native.Mathlib.Omega.{arith}
+use Prim.Native.Nat.{_+_, _-_}
+use Rattle.rules.specs.Calls as calls
+use Rattle.script.proofs.ReplyLaws.{lent-fits, lent}
+use borrow.Author.Needs.{needs}
+use Rattle.script.proofs.doing.frame.Statement.{statement}
+use Rattle.script.proofs.doing.frame.Tie as tie
+
+add-end : tie.Need-add-end
+add-end c = search needs
+
+sub-frame : tie.Need-sub-frame
+sub-frame c = search needs
+
+part-frame-start : tie.Need-part-frame-start
+part-frame-start c = search needs
+
+part-frame-end : tie.Need-part-frame-end
+part-frame-end c = search needs
+
+frame-requires : tie.Need-frame-requires
+frame-requires c κs = search needs
+
+reply-requires : tie.Need-reply-requires
+reply-requires c κs =
+    let s = c .before .before .before .before .before .before .before in
+    lent-fits (s .args .station) (calls.frame (s .args .octets .now)) (s .args .out .now) _ (s .args .room) (replyOctets + s .args .room - replyOctets) _ (s .pre .ready .output) (s .pre .room) (omega arith) (c .before .before .before .frame .ensures) (search needs) _ (search needs)
+
+same-length : tie.Need-same-length
+same-length c = search needs
+
+returns : tie.Need-returns
+returns c =
+    let s = c .before .before .before .before .before .before .before .before .before .before in
+    lent (s .args .station) (calls.frame (s .args .octets .now)) (s .args .out .now) _ (s .args .room) (replyOctets + s .args .room - replyOctets) _ (s .pre .ready .output) (s .pre .room) (omega arith) (c .before .before .before .before .before .before .frame .ensures) (search needs) _ _ (c .before .before .reply .ensures .0) (c .before .before .reply .ensures .1)
+
+pub frame-spec : {M : Type 1} → statement M
+frame-spec =
+    tie.close
+    (tie.spec
+    add-end
+    sub-frame
+    part-frame-start
+    part-frame-end
+    frame-requires
+    reply-requires
+    same-length
+    returns)

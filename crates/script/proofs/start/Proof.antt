@@ -1,0 +1,52 @@
+-- The head's numbers; then configuring.
+use Rattle.script.proofs.EventLaws.{configured-as, started}
+use borrow.Author.Needs.{needs}
+use Rattle.script.proofs.start.Statement.{statement}
+use Rattle.script.proofs.start.Tie as tie
+
+number-at-requires : tie.Need-number-at-requires
+number-at-requires c κs = search needs
+
+number-at-requires-2 : tie.Need-number-at-requires-2
+number-at-requires-2 c κs = search needs
+
+low-number-at-requires : tie.Need-low-number-at-requires
+low-number-at-requires c κs = search needs
+
+number-at-requires-3 : tie.Need-number-at-requires-3
+number-at-requires-3 c κs = search needs
+
+number-at-requires-4 : tie.Need-number-at-requires-4
+number-at-requires-4 c κs = search needs
+
+configure-requires : tie.Need-configure-requires
+configure-requires c κs = search needs
+
+refusal-of-requires : tie.Need-refusal-of-requires
+refusal-of-requires c κs = search needs
+
+cast-octets-of : tie.Need-cast-octets-of
+cast-octets-of c = search needs
+
+octets-of-requires : tie.Need-octets-of-requires
+octets-of-requires c κs = search needs
+
+returns : tie.Need-returns
+returns c =
+    let h = c .before .before .before .before .before .before .before .before .before .before .args .head .now in
+    started h (c .before .before .before .configure .result) _ _ (configured-as h _ _ _ _ _ _ (c .before .before .before .before .before .before .before .before .number-at .ensures) (c .before .before .before .before .before .before .before .number-at2 .ensures) (c .before .before .before .before .before .before .low-number-at .ensures) (c .before .before .before .before .before .number-at3 .ensures) (c .before .before .before .before .number-at4 .ensures) (c .before .before .before .configure .ensures)) (c .before .refusal-of .ensures) (c .octets-of .ensures)
+
+pub start-spec : {M : Type 1} → statement M
+start-spec =
+    tie.close
+    (tie.spec
+    number-at-requires
+    number-at-requires-2
+    low-number-at-requires
+    number-at-requires-3
+    number-at-requires-4
+    configure-requires
+    refusal-of-requires
+    cast-octets-of
+    octets-of-requires
+    returns)

@@ -1,0 +1,4 @@
+pub mod Layout
+pub mod Replies
+pub mod Promises
+pub mod Private

@@ -1,0 +1,54 @@
+-- What the contracts of private functions cite, and no public one.
+use Prim.Native.Nat.{ℕ, _+_, _≤_}
+use mathlib.Core.Path.{_≡_}
+use mathlib.Core.List.{List}
+use lib.ListN.{length}
+use Rattle.messages.specs.Octets.{splice}
+use Rattle.messages.specs.Reading.{Checked, no, yes}
+use Rattle.rules.specs.declared.Station.{Station}
+use Rattle.rules.specs.Answers.{Summary}
+use Rattle.rules.specs.Numbers.{indicationNumber}
+use Rattle.rules.specs.Invariant.{Invariant}
+use Rattle.script.specs.declared.Happened.{Happened}
+use Rattle.script.specs.Layout.{mostOctets}
+use Rattle.script.specs.Replies.{replyHead}
+use Rattle.script.specs.Promises.{replyOctets, longestReply}
+
+-- no event: the station as it was, and no reply
+abbrev pub nothingAs : Station → Happened
+nothingAs s = record { station = s; octets = 0 }
+
+-- a station, and an output that the longest reply fits
+pub record Ready (s : Station) (out : List ℕ) : Type 0 where
+  pub kept : Invariant s
+  pub output : longestReply ≤ length out
+
+-- the same, and a room of which no more is lent than there is
+pub record RoomReady (s : Station) (n : ℕ) (out : List ℕ) : Type 0 where
+  pub ready : Ready s out
+  pub room : n ≤ mostOctets
+
+-- the first octets of the reply to an answer
+abbrev pub headOf : Checked Summary → List ℕ
+headOf (no n) = replyHead n 0 0
+headOf (yes x) = replyHead 0 (indicationNumber (x .indication)) (x .octets)
+
+-- how many octets of frames an answer tells of
+abbrev pub frameOctets : Checked Summary → ℕ
+frameOctets (no n) = 0
+frameOctets (yes x) = x .octets
+
+-- an answer whose reply fits the output
+pub record Fits (x : Checked Summary) (out : List ℕ) : Type 0 where
+  pub frames : frameOctets x ≤ mostOctets
+  pub output : longestReply ≤ length out
+
+-- the first octets of the reply to an answer stand in the output, and the whole reply takes n octets
+pub record Answered (x : Checked Summary) (entry exit : List ℕ) (n : ℕ) : Type 0 where
+  pub octets : n ≡ replyOctets + frameOctets x
+  pub output : exit ≡ splice 0 (headOf x) entry
+
+-- the whole reply ws stands in the output, and takes n octets
+pub record Replied (ws entry exit : List ℕ) (n : ℕ) : Type 0 where
+  pub octets : n ≡ length ws
+  pub output : exit ≡ splice 0 ws entry

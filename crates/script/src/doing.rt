@@ -1,0 +1,141 @@
+// Carrying an event out in an output that the longest reply fits; octets that are not as the event's kind asks do nothing.
+use crate::Happened;
+use crate::REPLY_OCTETS;
+use crate::numbers;
+use crate::replies;
+use messages::CarAddress;
+use rules::Station;
+use rules::Stepped;
+ghost use mathlib.Core.Path.{_≡_};
+ghost use mathlib.Core.Option.{some};
+ghost use lib.Dec.{eqb};
+ghost use lib.ListN.{length};
+ghost use Rattle.rules.specs.Calls as calls;
+ghost use Rattle.rules.specs.Answers.{answerOf};
+ghost use Rattle.script.specs.Layout.{call, given, pilotIn, queryIn, ofKind};
+ghost use Rattle.script.specs.Promises.{Happens};
+ghost use Rattle.script.specs.Private.{nothingAs, Ready, RoomReady, Fits, Answered};
+
+// An event that is not carried out.
+pub(crate) fn nothing(station: Station) -> Happened
+    ensures { λ r. ⌜ r ≡ nothingAs station ⌝ }
+{
+    Happened {
+        station: station,
+        octets: 0,
+    }
+}
+
+// The reply to a call whose frames, if any, stand in their place.
+fn reply(stepped: Stepped, out: &mut [u8]) -> Happened
+    requires { ⌜ Fits (answerOf (stepped .answer)) (now out) ⌝ }
+    ensures { λ r. ⌜ (r .station ≡ stepped .station) × Answered (answerOf (stepped .answer)) (now (out .entry)) (now (out .exit)) (r .octets) ⌝ }
+{
+    let station = stepped.station;
+    let answer = stepped.answer;
+    let octets = replies::put_answer(out, answer);
+    Happened {
+        station: station,
+        octets: octets,
+    }
+}
+
+// A frame: the part of the output behind the reply's first octets is lent.
+fn frame(station: Station, octets: &[u8], room: usize, out: &mut [u8]) -> Happened
+    requires { ⌜ RoomReady station room (now out) ⌝ }
+    ensures { λ r. ⌜ Happens station (some (call (calls.frame (now (octets .entry)) room))) (now (out .entry)) (now (out .exit)) r ⌝ }
+{
+    let end = REPLY_OCTETS + room;
+    let stepped = station::frame(station, octets, &mut out[REPLY_OCTETS..end]);
+    reply(stepped, out)
+}
+
+// A tick has no octets: the same part of the output is lent.
+fn tick(station: Station, reading: u32, room: usize, octets: &[u8], out: &mut [u8]) -> Happened
+    requires { ⌜ RoomReady station room (now out) ⌝ }
+    ensures { λ r. ⌜ Happens station (given (eqb (length (now (octets .entry))) 0) (call (calls.tick reading room))) (now (out .entry)) (now (out .exit)) r ⌝ }
+{
+    if octets.len() != 0 {
+        return nothing(station);
+    }
+    let end = REPLY_OCTETS + room;
+    let stepped = station::tick(station, reading, &mut out[REPLY_OCTETS..end]);
+    reply(stepped, out)
+}
+
+// A pilot event has one octet, the number of the pilot state.
+fn pilot(station: Station, reading: u32, octets: &[u8], out: &mut [u8]) -> Happened
+    requires { ⌜ Ready station (now out) ⌝ }
+    ensures { λ r. ⌜ Happens station (pilotIn reading (now (octets .entry))) (now (out .entry)) (now (out .exit)) r ⌝ }
+{
+    let n = numbers::octet_at(octets, 0);
+    if !((octets.len() == 1) & (n < 6)) {
+        return nothing(station);
+    }
+    let stepped = station::pilot(station, rules::pilot_of(n), reading);
+    reply(stepped, out)
+}
+
+// Terminate has no octets.
+fn terminate(station: Station, octets: &[u8], out: &mut [u8]) -> Happened
+    requires { ⌜ Ready station (now out) ⌝ }
+    ensures { λ r. ⌜ Happens station (given (eqb (length (now (octets .entry))) 0) (call calls.terminate)) (now (out .entry)) (now (out .exit)) r ⌝ }
+{
+    if octets.len() != 0 {
+        return nothing(station);
+    }
+    let stepped = station::terminate(station);
+    reply(stepped, out)
+}
+
+// Link up has no octets.
+fn link_up(station: Station, octets: &[u8], out: &mut [u8]) -> Happened
+    requires { ⌜ Ready station (now out) ⌝ }
+    ensures { λ r. ⌜ Happens station (given (eqb (length (now (octets .entry))) 0) (call calls.linkUp)) (now (out .entry)) (now (out .exit)) r ⌝ }
+{
+    if octets.len() != 0 {
+        return nothing(station);
+    }
+    let stepped = station::link_up(station);
+    reply(stepped, out)
+}
+
+// A service query has six octets, the car's address.
+fn query(station: Station, octets: &[u8], out: &mut [u8]) -> Happened
+    requires { ⌜ Ready station (now out) ⌝ }
+    ensures { λ r. ⌜ Happens station (queryIn (now (octets .entry))) (now (out .entry)) (now (out .exit)) r ⌝ }
+{
+    if octets.len() != 6 {
+        return nothing(station);
+    }
+    let car = CarAddress(numbers::number_at(octets, 0, 6));
+    let heard = rules::sounds_heard(station, car);
+    let size = replies::put_heard(out, heard);
+    Happened {
+        station: station,
+        octets: size,
+    }
+}
+
+// The event of a kind.
+pub(crate) fn of_kind(
+    station: Station,
+    kind: u64,
+    reading: u32,
+    room: usize,
+    octets: &[u8],
+    out: &mut [u8],
+) -> Happened
+    requires { ⌜ RoomReady station room (now out) ⌝ }
+    ensures { λ r. ⌜ Happens station (ofKind kind reading room (now (octets .entry))) (now (out .entry)) (now (out .exit)) r ⌝ }
+{
+    match kind {
+        0 => frame(station, octets, room, out),
+        1 => tick(station, reading, room, octets, out),
+        2 => pilot(station, reading, octets, out),
+        3 => terminate(station, octets, out),
+        4 => link_up(station, octets, out),
+        5 => query(station, octets, out),
+        _ => nothing(station),
+    }
+}
