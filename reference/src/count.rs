@@ -32,6 +32,9 @@ impl Counts {
         for name in STATES {
             row("3 after the event", name);
         }
+        for name in PASSAGES {
+            row("7 passage", name);
+        }
         counts
     }
 
@@ -137,6 +140,12 @@ const STATES: [&str; 23] = [
     "record Sounding", "record Reported, 0 retries", "record Reported, 1 retries",
     "record Reported, 2 retries", "record Awaiting", "records held: 0", "records held: 1",
     "records held: 2", "records held: 3", "records held: 4", "records held: 5",
+];
+
+const PASSAGES: [&str; 11] = [
+    "restart, admission open", "restart, admission closed", "ten profiles", "MATCH.CNF again",
+    "the clock wraps", "tick with 0 reports", "tick with 1 reports", "tick with 2 reports",
+    "tick with 3 reports", "tick with 4 reports", "tick with 5 reports",
 ];
 
 fn refused(number: u32, words: &str) -> String {

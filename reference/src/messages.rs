@@ -137,15 +137,10 @@ pub struct Message {
     pub body: Body,
 }
 
-/// APPLICATION_TYPE and SECURITY_TYPE.
-const APP_SEC: [u8; 2] = [0; 2];
 /// NUM_SOUNDS, TIME_OUT and RESP_TYPE.
 const SOUNDING: [u8; 3] = [0x0A, 0x06, 0x01];
 /// NumGroups.
 const GROUPS: u8 = 0x3A;
-/// The MVFLength of MATCH.REQ and MATCH.CNF.
-const REQ_LENGTH: [u8; 2] = [0x3E, 0];
-const CNF_LENGTH: [u8; 2] = [0x56, 0];
 
 impl Body {
     pub fn send(self, source: Address, destination: Address) -> Message {
@@ -221,37 +216,40 @@ impl Message {
         if frame.len() > kind.written() {
             return Err(Refusal::Long);
         }
+        let address = |at| octets(frame, at).map(Address).ok_or(Refusal::Short);
+        let (to, from) = (address(0)?, address(6)?);
+        let car = if kind == Kind::AttenProfile { address(19)? } else { from };
+        check_addresses(kind, to, from, car)?;
+        if !is_fixed(kind, payload, &to.0, &from.0) {
+            return Err(Refusal::Octet);
+        }
         let body = Body::found(kind, payload).ok_or(Refusal::Short)?;
-        let [destination, source] = [0, 6].map(|at| octets(head, at).map(Address));
-        let message = body.send(source.ok_or(Refusal::Short)?, destination.ok_or(Refusal::Short)?);
-        // "Every fixed or zero octet is checked": the frame is the one that would be written.
-        let written = message.to_frame()?;
-        let same = frame.iter().zip(&written).take(kind.shortest()).all(|(a, b)| a == b);
-        same.then_some(message).ok_or(Refusal::Octet)
+        Ok(body.send(from, to))
     }
 
     /// The written frame, zero padded; "Writing: 5, 6".
     pub fn to_frame(self) -> Result<Vec<u8>, Refusal> {
-        let Message { destination, source, body } = self;
-        let kind = body.kind();
-        check_addresses(kind, destination, source, self.car().unwrap_or(source))?;
-        if matches!(body, Body::MatchCnf { nid, .. } if !nid.is_valid()) {
-            return Err(Refusal::Octet);
-        }
-        let [low, high] = kind.type_number().to_le_bytes();
-        let head = [0x88, 0xE1, 0x01, low, high, 0, 0];
-        let payload = write_payload(&body, &destination, &source);
-        let mut frame = [&destination.0[..], &source.0, &head, &payload].concat();
-        frame.resize(kind.written(), 0);
+        let mut frame = vec![0; self.body.kind().written()];
+        self.write(&mut frame)?;
         Ok(frame)
     }
 
     /// Writes the frame from the output's first octet and gives its length: "5, 6, then 15".
     pub fn write(&self, output: &mut [u8]) -> Result<usize, Refusal> {
-        let frame = self.to_frame()?;
-        let place = output.get_mut(..frame.len()).ok_or(Refusal::Output)?;
-        place.copy_from_slice(&frame);
-        Ok(frame.len())
+        let Message { destination, source, body } = self;
+        let kind = body.kind();
+        check_addresses(kind, *destination, *source, self.car().unwrap_or(*source))?;
+        if matches!(body, Body::MatchCnf { nid, .. } if !nid.is_valid()) {
+            return Err(Refusal::Octet);
+        }
+        let frame = output.get_mut(..kind.written()).ok_or(Refusal::Output)?;
+        frame.fill(0);
+        frame[..6].copy_from_slice(&destination.0);
+        frame[6..12].copy_from_slice(&source.0);
+        frame[12..15].copy_from_slice(&[0x88, 0xE1, 0x01]);
+        frame[15..17].copy_from_slice(&kind.type_number().to_le_bytes());
+        write_payload(body, &mut frame[19..], &destination.0, &source.0);
+        Ok(kind.written())
     }
 }
 
@@ -262,29 +260,53 @@ fn check_addresses(kind: Kind, to: Address, from: Address, car: Address) -> Resu
     good.then_some(()).ok_or(Refusal::AddressKind)
 }
 
-fn write_payload(body: &Body, to: &Address, from: &Address) -> Vec<u8> {
-    let (to, from) = (&to.0[..], &from.0[..]);
-    let parts: &[&[u8]] = match body {
-        Body::ParmReq { run } => &[&APP_SEC, &run.0],
-        Body::ParmCnf { run } => &[&[0xFF; 6], &SOUNDING, to, &APP_SEC, &run.0],
-        Body::StartAttenChar { run } => &[&APP_SEC, &SOUNDING, from, &run.0],
-        Body::AttenChar { run, sounds, groups } => {
-            &[&APP_SEC, to, &run.0, &[0; 34], &[*sounds, GROUPS], groups]
-        }
-        Body::AttenCharRsp { run } => &[&APP_SEC, from, &run.0, &[0; 34], &[0]],
-        Body::MnbcSound { run, count, random } => {
-            &[&APP_SEC, &[0; 17], &[*count], &run.0, &[0; 8], random]
-        }
-        Body::MatchReq { run } => {
-            &[&APP_SEC, &REQ_LENGTH, &[0; 17], from, &[0; 17], to, &run.0, &[0; 8]]
-        }
-        Body::MatchCnf { run, nid, nmk } => {
-            let matched = [&APP_SEC[..], &CNF_LENGTH, &[0; 17], to, &[0; 17], from, &run.0];
-            return [&matched.concat()[..], &[0; 8], &nid.0, &[0], &nmk.0].concat();
-        }
-        Body::AttenProfile { car, groups } => &[&car.0, &[GROUPS, 0], groups],
+/// Whether every fixed, equal-to and limited octet of the payload is right.
+fn is_fixed(kind: Kind, p: &[u8], to: &[u8], from: &[u8]) -> bool {
+    let zero = |from: usize, to: usize| p[from..to].iter().all(|octet| *octet == 0);
+    let matching = |length: u8, car: &[u8], station: &[u8]| {
+        zero(0, 2)
+            && p[2..4] == [length, 0]
+            && zero(4, 21)
+            && p[21..27] == *car
+            && zero(27, 44)
+            && p[44..50] == *station
+            && zero(58, 66)
     };
-    parts.concat()
+    match kind {
+        Kind::ParmReq => zero(0, 2),
+        Kind::ParmCnf => {
+            p[..6] == [0xFF; 6] && p[6..9] == SOUNDING && p[9..15] == *to && zero(15, 17)
+        }
+        Kind::StartAttenChar => zero(0, 2) && p[2..5] == SOUNDING && p[5..11] == *from,
+        Kind::AttenChar => zero(0, 2) && p[2..8] == *to && zero(16, 50) && p[51] == GROUPS,
+        Kind::AttenCharRsp => zero(0, 2) && p[2..8] == *from && zero(16, 51),
+        Kind::MnbcSound => zero(0, 19) && zero(28, 36),
+        Kind::MatchReq => matching(0x3E, from, to),
+        Kind::MatchCnf => matching(0x56, to, from) && p[72] <= 0x3F && p[73] == 0,
+        Kind::AttenProfile => p[6..8] == [GROUPS, 0],
+    }
+}
+
+/// Writes the payload's octets that are not zero.
+fn write_payload(body: &Body, payload: &mut [u8], to: &[u8], from: &[u8]) {
+    let parts: &[(usize, &[u8])] = match body {
+        Body::ParmReq { run } => &[(2, &run.0)],
+        Body::ParmCnf { run } => &[(0, &[0xFF; 6]), (6, &SOUNDING), (9, to), (17, &run.0)],
+        Body::StartAttenChar { run } => &[(2, &SOUNDING), (5, from), (11, &run.0)],
+        Body::AttenChar { run, sounds, groups } => {
+            &[(2, to), (8, &run.0), (50, &[*sounds, GROUPS]), (52, groups)]
+        }
+        Body::AttenCharRsp { run } => &[(2, from), (8, &run.0)],
+        Body::MnbcSound { run, count, random } => &[(19, &[*count]), (20, &run.0), (36, random)],
+        Body::MatchReq { run } => &[(2, &[0x3E]), (21, from), (44, to), (50, &run.0)],
+        Body::MatchCnf { run, nid, nmk } => {
+            &[(2, &[0x56]), (21, to), (44, from), (50, &run.0), (66, &nid.0), (74, &nmk.0)]
+        }
+        Body::AttenProfile { car, groups } => &[(0, &car.0), (6, &[GROUPS]), (8, groups)],
+    };
+    for (at, octets) in parts {
+        payload[*at..*at + octets.len()].copy_from_slice(octets);
+    }
 }
 
 /// So many octets from the given place on.
