@@ -198,7 +198,7 @@ pub fn groups(frame: &[u8]) -> GroupValues
 }
 
 // Zeros in the place of group values.
-fn no_groups() -> GroupValues
+pub fn no_groups() -> GroupValues
     ensures { λ r. ⌜ r ≡ noGroups ⌝ }
 {
     [0; GROUPS]

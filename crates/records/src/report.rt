@@ -7,7 +7,6 @@ ghost use mathlib.Core.Path.{_≡_};
 ghost use mathlib.Core.List.{map};
 ghost use Prim.Native.Nat.{ℕ, _*_, _≤_};
 ghost use lib.ListN.{getD};
-ghost use Rattle.messages.specs.Reading.{noGroups};
 ghost use Rattle.rules.specs.Replies.{mean};
 ghost use Rattle.rules.specs.Invariant.{GoodRecord};
 
@@ -19,7 +18,7 @@ pub fn values(r: Record) -> GroupValues
     let sums = r.sums;
     let count = r.profiles;
     if count == 0 {
-        return no_values();
+        return messages::no_groups();
     }
     means(sums, count as u16)
 }
@@ -29,18 +28,11 @@ fn means(sums: GroupSums, count: u16) -> GroupValues
     requires { ⌜ (1 ≤ count) × ((i : ℕ) → getD sums i 0 ≤ 255 * count) ⌝ }
     ensures { λ v. ⌜ v ≡ map (mean count) sums ⌝ }
 {
-    let mut values = no_values();
+    let mut values = messages::no_groups();
     let mut i: usize = 0;
     while i < GROUPS {
         values[i] = (sums[i] / count) as u8;
         i = i + 1;
     }
     values
-}
-
-// Zeros in the place of group values.
-pub fn no_values() -> GroupValues
-    ensures { λ v. ⌜ v ≡ noGroups ⌝ }
-{
-    [0; GROUPS]
 }

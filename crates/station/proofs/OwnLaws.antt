@@ -1,8 +1,8 @@
 -- START, SOUND, RSP and PROFILE at the car's own record, in the rules' words.
 use Prim.Native.Nat.{ℕ}
 use mathlib.Core.Path.{_≡_, refl, sym, ap, ap₂, _∙_}
-use mathlib.Core.List.{List, []}
-use lib.ListN.{getD}
+use mathlib.Core.List.{List, [], _∷_}
+use lib.ListN.{getD, set}
 use Rattle.messages.specs.declared.CarAddress.{CarAddress}
 use Rattle.messages.specs.Reading.{Checked, no, yes}
 use Rattle.rules.specs.declared.Indication.the-variants.{Nothing}
@@ -13,9 +13,9 @@ use Rattle.rules.specs.declared.Station.{Station}
 use Rattle.rules.specs.Outcomes.{andThen}
 use Rattle.rules.specs.Records.{mine, freePlaces, owned}
 use Rattle.rules.specs.Received.{forRecord}
-use Rattle.rules.specs.Replies.{reportOf, framesTo}
+use Rattle.rules.specs.Replies.{Reply, reportOf, framesTo}
 use Rattle.rules.specs.Stations.{done}
-use Rattle.rules.specs.Frames.{Kept, Change, atOwn, putBack, changeRule, put, changed, stateRule}
+use Rattle.rules.specs.Frames.{Kept, keeps, Change, atOwn, putBack, changeRule, put, changed, stateRule}
 use Rattle.records.specs.declared.requests.RunMessage.the-variants.{Start, Sound, Rsp}
 use Rattle.records.proofs.PlaceLaws.{OwnAt}
 use Rattle.station.specs.declared.judge.OwnMessage.{OwnMessage}
@@ -32,9 +32,14 @@ change-own c (Run run Rsp) g a free own = refl
 change-own c Profile g a free own = refl
 
 -- a report is the same of the car's own record
-pub report-owned : (c : CarAddress) (r : Record) → reportOf (owned c r) ≡ reportOf r
+report-owned : (c : CarAddress) (r : Record) → reportOf (owned c r) ≡ reportOf r
 unfolding reportOf owned
 report-owned c r = refl
+
+-- so it is what the rule sends
+pub settled-report : (s : Station) (i : ℕ) (c : CarAddress) (k : Record)
+    → yes (done (s .state) (set (s .records) i (owned c k)) (framesTo (s .config) c (reportOf (owned c k) ∷ [])) Nothing) ≡ settled s i c (keeps k (reportOf k ∷ []))
+settled-report s i c k = ap (λ (t : Reply). yes (done (s .state) (set (s .records) i (owned c k)) (framesTo (s .config) c (t ∷ [])) Nothing)) (report-owned c k)
 
 module _ (s : Station) (c : CarAddress) (m : OwnMessage) (g : List ℕ) (a : ℕ) (e : s .state ≡ Matching a) where
   -- by the car's records

@@ -70,7 +70,7 @@ pub(crate) fn parm_cnf(
     let config = station.config;
     let state = station.state;
     let message = reply::parm_cnf(config, car, run);
-    sent(station, state, records, message, report::no_values(), out)
+    sent(station, state, records, message, messages::no_groups(), out)
 }
 
 // The report of a record to a car, with the records after it.
@@ -104,5 +104,5 @@ pub(crate) fn match_cnf(
 {
     let config = station.config;
     let message = reply::match_cnf(config, car, run);
-    sent(station, state, records, message, report::no_values(), out)
+    sent(station, state, records, message, messages::no_groups(), out)
 }

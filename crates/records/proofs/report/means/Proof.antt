@@ -16,8 +16,8 @@ Inv-loop count sums values₀ i₀ values i = Filled (mean count) sums values i
 abbrev μ-loop : tie.MeasureT-loop
 μ-loop count sums values₀ i₀ values i = length sums - i
 
-no-values-requires : tie.Need-no-values-requires Inv-loop μ-loop
-no-values-requires c κs = search needs
+no-groups-requires : tie.Need-no-groups-requires Inv-loop μ-loop
+no-groups-requires c κs = search needs
 
 loop-holds : tie.Need-loop-holds Inv-loop μ-loop
 loop-holds c = fill-none (mean (c .before .args .count)) (c .before .args .t1) _ (search needs)
@@ -69,7 +69,7 @@ means-spec =
     (tie.spec
     Inv-loop
     μ-loop
-    no-values-requires
+    no-groups-requires
     loop-holds
     mul-values
     array-read-values

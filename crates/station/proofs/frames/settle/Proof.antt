@@ -3,12 +3,12 @@ use Rattle.messages.specs.Reading.{yes}
 use Rattle.records.specs.Requests.{effectOf}
 use Rattle.records.specs.declared.requests.Effect.{Effect}
 use Rattle.rules.specs.Invariant.{GoodRecord}
-use Rattle.rules.specs.Replies.{Reply, reportOf, framesTo}
+use Rattle.rules.specs.Replies.{reportOf, framesTo}
 use Rattle.rules.specs.Stations.{done}
 use Rattle.rules.specs.declared.Indication.the-variants.{Nothing}
 use Rattle.rules.specs.declared.Record.{Record}
 use Rattle.station.proofs.ComesLaws.{comes-as, comes-refused, comes-silent}
-use Rattle.station.proofs.OwnLaws.{report-owned}
+use Rattle.station.proofs.OwnLaws.{settled-report}
 use Rattle.station.specs.Frames.{KeepsGood, settled}
 use lib.ListN.{set}
 use mathlib.Core.List.{List, [], _∷_}
@@ -69,8 +69,9 @@ returns-3 c =
     let a = c .before .before .before .before .before .before .before .before .before .before .before .args in
     let own = c .before .before .before .before .before .before .before .owned .ensures in
     comes-as (a .station) _ _ (a .out .now) _ (c .before .before .report .result)
-    (ap₂ (λ (l : List Record) (t : Reply). yes (done (a .station .state) l (framesTo (a .station .config) (a .car) (t ∷ [])) Nothing))
-    (c .before .before .before .before .with-record2 .ensures ∙ ap (set (a .station .records) (a .i)) own) (ap reportOf own ∙ report-owned (a .car) (a .kept .kept))
+    (ap₂ (λ (l : List Record) (k : Record). yes (done (a .station .state) l (framesTo (a .station .config) (a .car) (reportOf k ∷ [])) Nothing))
+    (c .before .before .before .before .with-record2 .ensures ∙ ap (set (a .station .records) (a .i)) own) own
+    ∙ settled-report (a .station) (a .i) (a .car) (a .kept .kept)
     ∙ sym (ap (λ (x : Effect). settled (a .station) (a .i) (a .car) (effectOf (a .kept .kept) x)) (c .before .before .before .before .before .enum-told2 .given .1)))
     (c .before .before .report .ensures)
 

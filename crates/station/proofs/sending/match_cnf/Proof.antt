@@ -18,8 +18,8 @@ use Rattle.station.proofs.sending.match_cnf.Tie as tie
 match-cnf-requires : tie.Need-match-cnf-requires
 match-cnf-requires c κs = search needs
 
-no-values-requires : tie.Need-no-values-requires
-no-values-requires c κs = search needs
+no-groups-requires : tie.Need-no-groups-requires
+no-groups-requires c κs = search needs
 
 -- the run is a 64-bit number
 run-fits : (c : tie.Start) → c .args .run .0 < 2 ^ 64
@@ -49,4 +49,4 @@ returns c =
 
 pub match-cnf-spec : {M : Type 1} → statement M
 match-cnf-spec =
-    tie.close (tie.spec match-cnf-requires no-values-requires sent-requires same-length returns)
+    tie.close (tie.spec match-cnf-requires no-groups-requires sent-requires same-length returns)

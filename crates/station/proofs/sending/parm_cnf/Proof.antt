@@ -18,8 +18,8 @@ use Rattle.station.proofs.sending.parm_cnf.Tie as tie
 parm-cnf-requires : tie.Need-parm-cnf-requires
 parm-cnf-requires c κs = search needs
 
-no-values-requires : tie.Need-no-values-requires
-no-values-requires c κs = search needs
+no-groups-requires : tie.Need-no-groups-requires
+no-groups-requires c κs = search needs
 
 -- the run is a 64-bit number
 run-fits : (c : tie.Start) → c .args .run .0 < 2 ^ 64
@@ -45,4 +45,4 @@ returns c =
 
 pub parm-cnf-spec : {M : Type 1} → statement M
 parm-cnf-spec =
-    tie.close (tie.spec parm-cnf-requires no-values-requires sent-requires same-length returns)
+    tie.close (tie.spec parm-cnf-requires no-groups-requires sent-requires same-length returns)
