@@ -1,0 +1,7 @@
+pub mod RunLaws
+pub mod CopyLaws
+pub mod RecordWords
+pub mod HeadWords
+pub mod Meant
+pub mod SearchLaws
+pub mod WholeLaws

@@ -1,0 +1,120 @@
+-- Any words and sums mean a station that every call can take.
+use Prim.Native.Nat.{ℕ, zero, suc, _*_, _^_, _≤_, _%_}
+use mathlib.Core.Path.{_≡_, refl, sym, subst}
+use mathlib.Core.List.{List, [], _∷_}
+use native.Mathlib.Omega.{arith}
+use lib.Dec.{eqb}
+use lib.ListN.{length, getD, drop, length-take, length-map}
+use Rattle.messages.specs.Table.{groupCount, isUnicast}
+use Rattle.messages.proofs.LayoutLaws.{and-right}
+use Rattle.rules.specs.declared.Record.{Record}
+use Rattle.rules.specs.declared.Station.{Station}
+use Rattle.rules.specs.Constants.{recordCount}
+use Rattle.rules.specs.Invariant.{InPhase, GoodRecord, GoodConfiguration, Invariant}
+use Rattle.rules.specs.Lists.{All}
+use Rattle.rules.specs.Records.{isHeld}
+use Rattle.rules.specs.Rules.{isGood, freeRecord, configured}
+use Rattle.rules.proofs.InvariantKept.{configured-keeps}
+use Rattle.rules.proofs.Logic.{split}
+use Rattle.words.specs.Words.{headCount, width, runs, both, phaseOf, profilesOf, sumsOf, recordOf, recordsOf, configOf, stateOf, stationOf}
+use Rattle.rules.specs.Numbers.{pilotOf}
+
+-- ---- a record
+
+sums-limited : (n : ℕ) (s : List ℕ) (i : ℕ) → getD (sumsOf n s) i 0 ≤ 255 * n
+unfolding sumsOf
+sums-limited n [] i = omega arith
+sums-limited n (x ∷ s) zero = omega arith
+sums-limited n (x ∷ s) (suc i) = sums-limited n s i
+
+-- the profiles suit the phase where its time and retries do
+phase-limited : (k t n m : ℕ) → InPhase (phaseOf k t n) (profilesOf (phaseOf k t n) m)
+unfolding phaseOf profilesOf
+phase-limited k t n m = split (eqb k 0)
+    (λ a. rw a ((omega arith, omega arith), refl))
+    (λ a. rw a (split (eqb k 1)
+    (λ b. rw b ((omega arith, omega arith), omega arith))
+    (λ b. rw b (split (eqb k 2)
+    (λ c. rw c ((omega arith, omega arith), (omega arith, (omega arith, omega arith))))
+    (λ c. rw c ((omega arith, omega arith), (omega arith, omega arith)))))))
+
+pub record-meant : (w s : List ℕ) → GoodRecord (recordOf w s)
+unfolding recordOf isHeld
+record-meant w s = record {
+  sums = λ i. sums-limited _ s i;
+  phase = phase-limited (getD w 3 0) (getD w 4 0) (getD w 5 0) (getD w 7 0);
+  heard = omega arith;
+  car = λ h. and-right (eqb (getD w 0 0) 1) (isUnicast (getD w 1 0)) h;
+}
+
+all-both : (xs ys : List (List ℕ)) → All GoodRecord (both recordOf xs ys)
+unfolding both
+all-both [] ys = tt
+all-both (x ∷ xs) [] = tt
+all-both (x ∷ xs) (y ∷ ys) = (record-meant x y, all-both xs ys)
+
+pub records-meant : (w s : List ℕ) → All GoodRecord (recordsOf w s)
+unfolding recordsOf
+records-meant w s = all-both (runs recordCount width (drop headCount w)) (runs recordCount groupCount s)
+
+-- ---- the configuration and the station
+
+config-meant : (w : List ℕ) → GoodConfiguration (configOf w)
+unfolding configOf configured
+config-meant w =
+    let t = eqb (getD w 0 0) 1 in
+    let u = isGood (record { 0 = getD w 1 0 }) (record { 0 = getD w 2 0 }) (record { 0 = getD w 3 0 }) in
+    let k : GoodConfiguration (configured (record { 0 = getD w 1 0 }) (record { 0 = getD w 2 0 }) (record { 0 = getD w 3 0 }) (record { 0 = getD w 4 0; 1 = getD w 5 0 }) .config) =
+    configured-keeps (record { 0 = getD w 1 0 }) (record { 0 = getD w 2 0 }) (record { 0 = getD w 3 0 }) (record { 0 = getD w 4 0; 1 = getD w 5 0 }) .config in
+    record {
+      address = λ g. k .address (and-right t u g);
+      modem = λ g. k .modem (and-right t u g);
+      different = λ g. k .different (and-right t u g);
+      nid = λ g. k .nid (and-right t u g);
+    }
+
+pub meant : (w s : List ℕ) → Invariant (stationOf w s)
+unfolding stationOf
+meant w s = record { config = config-meant w; records = records-meant w s }
+
+-- a station read part by part
+pub unpacked : (w s : List ℕ) (x : Station) → x .config ≡ configOf w → x .state ≡ stateOf w → x .pilot ≡ pilotOf (getD w 10 0) → x .clock ≡ getD w 11 0 % 2 ^ 32 → x .records ≡ recordsOf w s
+    → (x ≡ stationOf w s) × Invariant x
+unfolding stationOf
+unpacked w s x a b c d e =
+    let same : x ≡ stationOf w s = λ i. record { config = a i; state = b i; pilot = c i; clock = d i; records = e i } in
+    (same, subst Invariant (sym same) (meant w s))
+
+-- ---- the record at a place
+
+all-getD : {A : Type 0} (P : A → Type 0) (xs : List A) (i : ℕ) (z : A) → All P xs → P z → P (getD xs i z)
+all-getD P [] i z h k = k
+all-getD P (x ∷ xs) zero z h k = h .0
+all-getD P (x ∷ xs) (suc i) z h k = all-getD P xs i z (h .1) k
+
+free-good : GoodRecord freeRecord
+unfolding configured
+free-good = configured-keeps (record { 0 = 0 }) (record { 0 = 0 }) (record { 0 = 0 }) (record { 0 = 0; 1 = 0 }) .records .0
+
+-- past the last a free one
+pub at-meant : (w s : List ℕ) (i : ℕ) → GoodRecord (getD (recordsOf w s) i freeRecord)
+at-meant w s i = all-getD GoodRecord (recordsOf w s) i freeRecord (records-meant w s) free-good
+
+-- ---- how much there is
+
+-- a run is no longer than its width
+all-few : (n k : ℕ) (l : List ℕ) → All (λ (x : List ℕ). length x ≤ k) (runs n k l)
+unfolding runs
+all-few zero k l = tt
+all-few (suc n) k l = (omega (arith, length-take k l), all-few n k (drop k l))
+
+both-few : (k : ℕ) (xs ys : List (List ℕ)) → All (λ (y : List ℕ). length y ≤ k) ys → All (λ (r : Record). length (r .sums) ≤ k) (both recordOf xs ys)
+unfolding both recordOf sumsOf
+both-few k [] ys h = tt
+both-few k (x ∷ xs) [] h = tt
+both-few k (x ∷ xs) (y ∷ ys) h = (rw length-map (h .0), both-few k xs ys (h .1))
+
+-- each record has a sum for each group at most
+pub sums-few : (w s : List ℕ) → All (λ (r : Record). length (r .sums) ≤ groupCount) (recordsOf w s)
+unfolding recordsOf
+sums-few w s = both-few groupCount (runs recordCount width (drop headCount w)) (runs recordCount groupCount s) (all-few recordCount groupCount s)

@@ -1,0 +1,145 @@
+-- A record in its words and sums: the one at a place, one stored at a place, and a record's own words.
+use Prim.Native.Nat.{ℕ, suc, _+_, _*_, _^_, _≤_, _<_, _%_, min}
+use mathlib.Core.Path.{_≡_, refl, sym, ap, ap₂, _∙_}
+use mathlib.Core.Bool.{Bool, true, false, _&&_}
+use mathlib.Core.List.{List, [], _∷_}
+use native.Mathlib.Omega.{arith}
+use native.Mathlib.Nat.{add-zero}
+use lib.Dec.{eqb}
+use lib.ListN.{length, getD, take, drop, set, length-drop, List·getD-eq-default}
+use lib.Seq.{sets, drop-drop, getD-take, getD-drop}
+use Rattle.messages.specs.Octets.{part}
+use Rattle.messages.specs.Table.{groupCount, isUnicast}
+use Rattle.messages.specs.declared.CarAddress.{CarAddress}
+use Rattle.rules.specs.declared.Phase.{Phase}
+use Rattle.rules.specs.declared.Phase.the-variants.{Asked, Sounding, Reported, Awaiting}
+use Rattle.rules.specs.declared.Record.{Record}
+use Rattle.rules.specs.Constants.{soundCount, recordCount}
+use Rattle.rules.specs.Invariant.{InPhase, GoodRecord}
+use Rattle.rules.specs.Records.{isHeld}
+use Rattle.words.specs.Words.{headCount, width, wordCount, sumCount, runs, both, phaseOf, profilesOf, mostSum, sumsOf, recordOf, recordsOf}
+use Rattle.words.specs.Written.{flagOf, phaseNumber, phaseRetries, wordsOf}
+use Rattle.records.specs.Timers as timers
+use Rattle.words.proofs.RunLaws.{drop-sets, length-runs, runs-at, runs-sets, length-both, both-set, both-at}
+
+-- where the words of the record at a place begin
+abbrev pub place : ℕ → ℕ
+place i = headCount + width * i
+
+-- ---- by place
+
+module _ (w s : List ℕ) where
+  pub length-records : length (recordsOf w s) ≡ recordCount
+  unfolding recordsOf
+  length-records = length-both recordOf (runs recordCount width (drop headCount w)) (runs recordCount groupCount s) recordCount
+      (length-runs recordCount width (drop headCount w)) (length-runs recordCount groupCount s)
+
+  -- the record at a place is that of its words and its sums
+  pub record-at : (i : ℕ) (d : Record) → i < recordCount → getD (recordsOf w s) i d ≡ recordOf (part w (place i) width) (part s (groupCount * i) groupCount)
+  unfolding recordsOf
+  record-at i d h =
+      both-at recordOf (runs recordCount width (drop headCount w)) (runs recordCount groupCount s) i [] [] d
+      (rw (length-runs recordCount width (drop headCount w)) h) (length-runs recordCount width (drop headCount w) ∙ sym (length-runs recordCount groupCount s))
+      ∙ ap₂ recordOf (runs-at recordCount width i (drop headCount w) [] h ∙ ap (take width) (drop-drop (width * i) headCount w)) (runs-at recordCount groupCount i s [] h)
+
+  -- the words and sums of a record put in its place are that record put in its place
+  pub record-put : (v t : List ℕ) (i : ℕ) → i < recordCount → length w ≡ wordCount → length s ≡ sumCount → length v ≡ width → length t ≡ groupCount
+      → recordsOf (sets w (place i) v) (sets s (groupCount * i) t) ≡ set (recordsOf w s) i (recordOf v t)
+  unfolding recordsOf
+  record-put v t i h lw ls lv lt =
+      ap₂ (both recordOf)
+      (ap (runs recordCount width) (drop-sets v w headCount (width * i)) ∙ runs-sets recordCount width i (drop headCount w) v lv (rw length-drop (omega arith)))
+      (runs-sets recordCount groupCount i s t lt (omega arith))
+      ∙ both-set recordOf (runs recordCount width (drop headCount w)) (runs recordCount groupCount s) i v t
+
+-- a word of a record
+word-at : (w : List ℕ) (at j : ℕ) → j < width → getD (part w at width) j 0 ≡ getD w (at + j) 0
+word-at w at j h = getD-take width (drop at w) j 0 h ∙ getD-drop at w j 0
+
+module _ (w s : List ℕ) (i : ℕ) (d : Record) (h : i < recordCount) where
+  pub held-at : isHeld (getD (recordsOf w s) i d) ≡ eqb (getD w (place i) 0) 1 && isUnicast (getD w (place i + 1) 0)
+  unfolding isHeld recordOf
+  held-at = rw (record-at w s i d h, word-at w (place i) 0 (omega arith), word-at w (place i) 1 (omega arith), add-zero)
+
+  pub car-at : getD (recordsOf w s) i d .car .0 ≡ getD w (place i + 1) 0
+  unfolding recordOf
+  car-at = rw (record-at w s i d h, word-at w (place i) 1 (omega arith))
+
+-- ---- a record's own words, and back
+
+flag-back : (b : Bool) → eqb (flagOf b) 1 ≡ b
+flag-back true = refl
+flag-back false = refl
+
+-- a flag with a test that it passes
+pub flag-and : (b t : Bool) → (b ≡ true → t ≡ true) → eqb (flagOf b) 1 && t ≡ b
+flag-and true t h = h refl
+flag-and false t h = refl
+
+phase-back : (p : Phase) (n : ℕ) → InPhase p n → phaseOf (phaseNumber p) (timers.timeOf p) (phaseRetries p) ≡ p
+unfolding phaseOf
+phase-back (Asked t) n h = ap Asked (omega arith)
+phase-back (Sounding t) n h = ap Sounding (omega arith)
+phase-back (Reported t k) n h = ap₂ Reported (omega arith) (omega arith)
+phase-back (Awaiting t) n h = ap Awaiting (omega arith)
+
+profiles-back : (p : Phase) (n : ℕ) → InPhase p n → profilesOf p n ≡ n
+unfolding profilesOf
+profiles-back (Asked t) n h = sym (h .1)
+profiles-back (Sounding t) n h = omega arith
+profiles-back (Reported t k) n h = omega arith
+profiles-back (Awaiting t) n h = omega arith
+
+pub sums-back : (n : ℕ) (s : List ℕ) → ((i : ℕ) → getD s i 0 ≤ 255 * n) → sumsOf n s ≡ s
+unfolding sumsOf
+sums-back n [] h = refl
+sums-back n (x ∷ s) h =
+    let e : min (mostSum n) x ≡ x = omega (arith, h 0) in
+    ap₂ (λ (y : ℕ) (l : List ℕ). y ∷ l) e (sums-back n s (λ i. h (suc i)))
+
+-- a good record's words and sums are that record
+pub record-back : (r : Record) → GoodRecord r → recordOf (wordsOf r) (r .sums) ≡ r
+unfolding recordOf wordsOf isHeld
+record-back r g =
+    let p : phaseOf (phaseNumber (r .phase)) (timers.timeOf (r .phase)) (phaseRetries (r .phase)) ≡ r .phase = phase-back (r .phase) (r .profiles) (g .phase) in
+    let n : profilesOf (phaseOf (phaseNumber (r .phase)) (timers.timeOf (r .phase)) (phaseRetries (r .phase))) (r .profiles) ≡ r .profiles =
+    ap (λ (q : Phase). profilesOf q (r .profiles)) p ∙ profiles-back (r .phase) (r .profiles) (g .phase) in
+    let m : sumsOf (profilesOf (phaseOf (phaseNumber (r .phase)) (timers.timeOf (r .phase)) (phaseRetries (r .phase))) (r .profiles)) (r .sums) ≡ r .sums =
+    ap (λ (k : ℕ). sumsOf k (r .sums)) n ∙ sums-back (r .profiles) (r .sums) (g .sums) in
+    let b : eqb (flagOf (r .held)) 1 && isUnicast (r .car .0) ≡ r .held = flag-and (r .held) (isUnicast (r .car .0)) (g .car) in
+    let e : r .heard % 2 ^ soundCount ≡ r .heard = omega (arith, g .heard) in
+    λ i. record { car = r .car; run = r .run; held = b i; phase = p i; heard = e i; profiles = n i; sums = m i }
+
+-- ---- a record read field by field
+
+module _ (w s : List ℕ) (i : ℕ) (d : Record) (h : i < recordCount) where
+  -- it is the record at its place
+  pub read-is : (x : Record)
+      → x .held ≡ isHeld (getD (recordsOf w s) i d)
+      → x .car ≡ getD (recordsOf w s) i d .car
+      → x .run .0 ≡ getD w (place i + 2) 0
+      → x .phase ≡ phaseOf (getD w (place i + 3) 0) (getD w (place i + 4) 0) (getD w (place i + 5) 0)
+      → x .heard ≡ getD w (place i + 6) 0 % 2 ^ soundCount
+      → x .profiles ≡ profilesOf (x .phase) (getD w (place i + 7) 0)
+      → x .sums ≡ sumsOf (x .profiles) (part s (groupCount * i) groupCount)
+      → x ≡ getD (recordsOf w s) i d
+  unfolding isHeld recordOf
+  read-is x eh ec er ep ee en es =
+      let v = part w (place i) width in
+      let b = record-at w s i d h in
+      let word : (j : ℕ) → j < width → getD w (place i + j) 0 ≡ getD v j 0 = λ j k. sym (word-at w (place i) j k) in
+      let held : x .held ≡ eqb (getD v 0 0) 1 && isUnicast (getD v 1 0) = eh ∙ ap isHeld b in
+      let car : x .car .0 ≡ getD v 1 0 = ap (λ (c : CarAddress). c .0) ec ∙ ap (λ (r : Record). r .car .0) b in
+      let run : x .run .0 ≡ getD v 2 0 = er ∙ word 2 (omega arith) in
+      let phase : x .phase ≡ phaseOf (getD v 3 0) (getD v 4 0) (getD v 5 0) = ep ∙ rw (word 3 (omega arith), word 4 (omega arith), word 5 (omega arith)) in
+      let heard : x .heard ≡ getD v 6 0 % 2 ^ soundCount = ee ∙ ap (λ (n : ℕ). n % 2 ^ soundCount) (word 6 (omega arith)) in
+      let profiles : x .profiles ≡ profilesOf (phaseOf (getD v 3 0) (getD v 4 0) (getD v 5 0)) (getD v 7 0) = en ∙ ap₂ profilesOf phase (word 7 (omega arith)) in
+      let sums : x .sums ≡ sumsOf (profilesOf (phaseOf (getD v 3 0) (getD v 4 0) (getD v 5 0)) (getD v 7 0)) (part s (groupCount * i) groupCount) =
+      es ∙ ap (λ (n : ℕ). sumsOf n (part s (groupCount * i) groupCount)) profiles in
+      let same : x ≡ recordOf v (part s (groupCount * i) groupCount) =
+      λ j. record { car = record { 0 = car j }; run = record { 0 = run j }; held = held j; phase = phase j; heard = heard j; profiles = profiles j; sums = sums j } in
+      same ∙ sym b
+
+-- past the last place
+pub past-last : (w s : List ℕ) (i : ℕ) (d : Record) → recordCount ≤ i → getD (recordsOf w s) i d ≡ d
+past-last w s i d h = let l : length (recordsOf w s) ≤ i = rw (length-records w s) h in List·getD-eq-default (recordsOf w s) d l

@@ -1,0 +1,43 @@
+-- `words::head::config` meets its contract.
+use Rattle.words.specs.Words.{configOf}
+use borrow.Author.Needs.{needs}
+use Rattle.words.proofs.head.config.Statement.{statement}
+use Rattle.words.proofs.head.config.Tie as tie
+
+shared-slice-read-address : tie.Need-shared-slice-read-address
+shared-slice-read-address c = search needs
+
+shared-slice-read-modem : tie.Need-shared-slice-read-modem
+shared-slice-read-modem c = search needs
+
+shared-slice-read-nid : tie.Need-shared-slice-read-nid
+shared-slice-read-nid c = search needs
+
+is-good-requires : tie.Need-is-good-requires
+is-good-requires c κs = search needs
+
+shared-slice-read-t7 : tie.Need-shared-slice-read-t7
+shared-slice-read-t7 c = search needs
+
+shared-slice-read-t17 : tie.Need-shared-slice-read-t17
+shared-slice-read-t17 c = search needs
+
+shared-slice-read-t19 : tie.Need-shared-slice-read-t19
+shared-slice-read-t19 c = search needs
+
+returns : tie.Need-returns
+unfolding configOf
+returns c = simp (c .before .before .before .is-good .ensures)
+
+pub config-spec : {M : Type 1} → statement M
+config-spec =
+    tie.close
+    (tie.spec
+    shared-slice-read-address
+    shared-slice-read-modem
+    shared-slice-read-nid
+    is-good-requires
+    shared-slice-read-t7
+    shared-slice-read-t17
+    shared-slice-read-t19
+    returns)

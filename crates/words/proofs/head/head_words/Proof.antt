@@ -1,0 +1,55 @@
+-- `words::head::head_words` meets its contract.
+use Rattle.words.specs.Written.{headOf}
+use borrow.Author.Needs.{needs}
+use native.Mathlib.Omega.{arith}
+use Rattle.words.proofs.head.head_words.Statement.{statement}
+use Rattle.words.proofs.head.head_words.Tie as tie
+
+flag-requires : tie.Need-flag-requires
+flag-requires c κs = search needs
+
+state-number-requires : tie.Need-state-number-requires
+state-number-requires c κs = search needs
+
+from32-requires : tie.Need-from32-requires
+from32-requires c κs = search needs
+
+state-time-requires : tie.Need-state-time-requires
+state-time-requires c κs = search needs
+
+from32-requires-2 : tie.Need-from32-requires-2
+from32-requires-2 c κs = search needs
+
+state-car-requires : tie.Need-state-car-requires
+state-car-requires c κs = search needs
+
+state-run-requires : tie.Need-state-run-requires
+state-run-requires c κs = search needs
+
+pilot-number-requires : tie.Need-pilot-number-requires
+pilot-number-requires c κs = search needs
+
+from32-requires-3 : tie.Need-from32-requires-3
+from32-requires-3 c κs = search needs
+
+returns : tie.Need-returns
+unfolding headOf
+returns c = (
+  simp (c .before .before .before .before .before .before .before .before .flag .ensures, c .before .before .before .before .before .before .from32 .ensures .0, c .before .before .before .before .before .before .before .state-number .ensures, c .before .before .before .before .from322 .ensures .0, c .before .before .before .before .before .state-time .ensures, c .before .before .before .state-car .ensures, c .before .before .state-run .ensures, c .before .pilot-number .ensures, c .from323 .ensures .0),
+  (omega (arith, c .before .before .before .before .from322 .ensures .1, c .before .before .before .before .before .state-time .ensures), c .from323 .ensures .1),
+)
+
+pub head-words-spec : {M : Type 1} → statement M
+head-words-spec =
+    tie.close
+    (tie.spec
+    flag-requires
+    state-number-requires
+    from32-requires
+    state-time-requires
+    from32-requires-2
+    state-car-requires
+    state-run-requires
+    pilot-number-requires
+    from32-requires-3
+    returns)

@@ -1,0 +1,143 @@
+-- A station as words and sums: what any two lists of numbers mean.
+use Prim.Native.Nat.{ℕ, zero, suc, _+_, _*_, _-_, _^_, _%_, min, max}
+use mathlib.Core.Bool.{cond, _&&_}
+use mathlib.Core.List.{List, [], _∷_, map}
+use lib.Dec.{eqb}
+use lib.ListN.{length, getD, take, drop}
+use Rattle.messages.specs.Table.{groupCount, isUnicast}
+use Rattle.rules.specs.declared.Configuration.{Configuration}
+use Rattle.rules.specs.declared.Phase.{Phase}
+use Rattle.rules.specs.declared.Phase.the-variants.{Asked, Sounding, Reported, Awaiting}
+use Rattle.rules.specs.declared.Record.{Record}
+use Rattle.rules.specs.declared.State.{State}
+use Rattle.rules.specs.declared.State.the-variants.{Unmatched, Matching, Joining, Matched}
+use Rattle.rules.specs.declared.Station.{Station}
+use Rattle.rules.specs.Constants.{askedTime, soundingTime, reportedTime, awaitingTime, retryCount, soundCount, recordCount}
+use Rattle.rules.specs.Lists.{only}
+use Rattle.rules.specs.Numbers.{pilotOf}
+use Rattle.rules.specs.Records.{isHeld}
+use Rattle.rules.specs.Rules.{isGood}
+use Rattle.rules.specs.Stations.{shared, build}
+
+-- ---- the layout
+
+-- how many words the head has: good, our address, the modem's, NID, NMK's two numbers, state, its time, its car, its run, pilot, clock
+abbrev pub headCount : ℕ
+headCount = 12
+
+-- how many words a record has: held, car, run, phase, its time, its retries, heard, profiles
+abbrev pub width : ℕ
+width = 8
+
+-- how many words a station has
+abbrev pub wordCount : ℕ
+wordCount = headCount + width * recordCount
+
+-- how many sums a station has
+abbrev pub sumCount : ℕ
+sumCount = groupCount * recordCount
+
+module _ {A : Type 0} where
+  -- n runs of k elements each, side by side
+  unfoldable pub runs : ℕ → ℕ → List A → List (List A)
+  runs zero k l = []
+  runs (suc n) k l = take k l ∷ runs n k (drop k l)
+
+module _ {A B C : Type 0} where
+  -- what each element gives with the one beside it
+  unfoldable pub both : (A → B → C) → List A → List B → List C
+  both f [] ys = []
+  both f (x ∷ xs) [] = []
+  both f (x ∷ xs) (y ∷ ys) = f x y ∷ both f xs ys
+
+-- ---- a record
+
+-- a phase's time left: from 1 to its start value
+abbrev pub timeOf : ℕ → ℕ → ℕ
+timeOf start n = min start (max 1 n)
+
+-- a phase by its number, with its time and its retries
+unfoldable pub phaseOf : ℕ → ℕ → ℕ → Phase
+phaseOf k t n =
+    cond (eqb k 0) (Asked (timeOf askedTime t))
+    (cond (eqb k 1) (Sounding (timeOf soundingTime t))
+    (cond (eqb k 2) (Reported (timeOf reportedTime t) (min retryCount n))
+    (Awaiting (timeOf awaitingTime t))))
+
+-- the profiles counted: as many as the phase allows
+unfoldable pub profilesOf : Phase → ℕ → ℕ
+profilesOf (Asked t) n = 0
+profilesOf (Sounding t) n = min (soundCount - 1) n
+profilesOf (Reported t k) n = min soundCount (max 1 n)
+profilesOf (Awaiting t) n = min soundCount (max 1 n)
+
+-- the greatest sum of so many profiles
+abbrev pub mostSum : ℕ → ℕ
+mostSum profiles = 255 * profiles
+
+-- the sums: each as much as the profiles allow
+unfoldable pub sumsOf : ℕ → List ℕ → List ℕ
+sumsOf profiles s = map (min (mostSum profiles)) s
+
+-- the record of its words and its sums: only a unicast car holds one
+unfoldable pub recordOf : List ℕ → List ℕ → Record
+recordOf w s =
+    let phase = phaseOf (getD w 3 0) (getD w 4 0) (getD w 5 0) in
+    let profiles = profilesOf phase (getD w 7 0) in
+    record {
+      car = record { 0 = getD w 1 0 };
+      run = record { 0 = getD w 2 0 };
+      held = eqb (getD w 0 0) 1 && isUnicast (getD w 1 0);
+      phase = phase;
+      heard = getD w 6 0 % 2 ^ soundCount;
+      profiles = profiles;
+      sums = sumsOf profiles s;
+    }
+
+-- the records, behind the head
+unfoldable pub recordsOf : List ℕ → List ℕ → List Record
+recordsOf w s = both recordOf (runs recordCount width (drop headCount w)) (runs recordCount groupCount s)
+
+-- how many records are held
+abbrev pub heldCount : List Record → ℕ
+heldCount rs = length (only isHeld rs)
+
+-- ---- the head
+
+-- the configuration: good only where it may be
+unfoldable pub configOf : List ℕ → Configuration
+configOf w = record {
+  good = eqb (getD w 0 0) 1 && isGood (record { 0 = getD w 1 0 }) (record { 0 = getD w 2 0 }) (record { 0 = getD w 3 0 });
+  address = record { 0 = getD w 1 0 };
+  modem = record { 0 = getD w 2 0 };
+  nid = record { 0 = getD w 3 0 };
+  nmk = record { 0 = getD w 4 0; 1 = getD w 5 0 };
+}
+
+-- a state by its number, with its time, its car and its run
+unfoldable pub stateBy : ℕ → ℕ → ℕ → ℕ → State
+stateBy k t car run =
+    cond (eqb k 0) Unmatched
+    (cond (eqb k 1) (Matching (t % 2 ^ 32))
+    (cond (eqb k 2) (Joining (t % 2 ^ 32) (record { 0 = car }) (record { 0 = run }))
+    Matched))
+
+-- the state
+abbrev pub stateOf : List ℕ → State
+stateOf w = stateBy (getD w 6 0) (getD w 7 0) (getD w 8 0) (getD w 9 0)
+
+-- ---- the station
+
+-- the station of its words and its sums
+unfoldable pub stationOf : List ℕ → List ℕ → Station
+stationOf w s = record {
+  config = configOf w;
+  state = stateOf w;
+  pilot = pilotOf (getD w 10 0);
+  clock = getD w 11 0 % 2 ^ 32;
+  records = recordsOf w s;
+}
+
+-- the station with other records
+abbrev pub withRecords : Station → List Record → Station
+withRecords s rs = build (shared s) (record { state = s .state; records = rs })

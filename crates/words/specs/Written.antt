@@ -1,0 +1,79 @@
+-- The words that are written for the parts of a station.
+use Prim.Native.Nat.{ℕ}
+use mathlib.Core.Bool.{Bool, true, false}
+use mathlib.Core.List.{List, [], _∷_}
+use Rattle.rules.specs.declared.Configuration.{Configuration}
+use Rattle.rules.specs.declared.Phase.{Phase}
+use Rattle.rules.specs.declared.Phase.the-variants.{Asked, Sounding, Reported, Awaiting}
+use Rattle.rules.specs.declared.Pilot.{Pilot}
+use Rattle.rules.specs.declared.Pilot.the-variants.{A, B, C, D, E, F}
+use Rattle.rules.specs.declared.Record.{Record}
+use Rattle.rules.specs.declared.State.{State}
+use Rattle.rules.specs.declared.State.the-variants.{Unmatched, Matching, Joining, Matched}
+use Rattle.records.specs.Timers as timers
+
+-- 1 for what is so, 0 for what is not
+abbrev pub flagOf : Bool → ℕ
+flagOf true = 1
+flagOf false = 0
+
+-- the number of a phase
+abbrev pub phaseNumber : Phase → ℕ
+phaseNumber (Asked t) = 0
+phaseNumber (Sounding t) = 1
+phaseNumber (Reported t n) = 2
+phaseNumber (Awaiting t) = 3
+
+-- a phase's retries left
+abbrev pub phaseRetries : Phase → ℕ
+phaseRetries (Asked t) = 0
+phaseRetries (Sounding t) = 0
+phaseRetries (Reported t n) = n
+phaseRetries (Awaiting t) = 0
+
+-- a record's words
+unfoldable pub wordsOf : Record → List ℕ
+wordsOf r = flagOf (r .held) ∷ r .car .0 ∷ r .run .0 ∷ phaseNumber (r .phase) ∷ timers.timeOf (r .phase) ∷ phaseRetries (r .phase) ∷ r .heard ∷ r .profiles ∷ []
+
+-- the number of a state
+abbrev pub stateNumber : State → ℕ
+stateNumber Unmatched = 0
+stateNumber (Matching t) = 1
+stateNumber (Joining t c run) = 2
+stateNumber Matched = 3
+
+-- a state's time left
+abbrev pub stateTime : State → ℕ
+stateTime Unmatched = 0
+stateTime (Matching t) = t
+stateTime (Joining t c run) = t
+stateTime Matched = 0
+
+-- the car that joins
+abbrev pub stateCar : State → ℕ
+stateCar Unmatched = 0
+stateCar (Matching t) = 0
+stateCar (Joining t c run) = c .0
+stateCar Matched = 0
+
+-- its run
+abbrev pub stateRun : State → ℕ
+stateRun Unmatched = 0
+stateRun (Matching t) = 0
+stateRun (Joining t c run) = run .0
+stateRun Matched = 0
+
+-- the number of a pilot state
+abbrev pub pilotNumber : Pilot → ℕ
+pilotNumber A = 0
+pilotNumber B = 1
+pilotNumber C = 2
+pilotNumber D = 3
+pilotNumber E = 4
+pilotNumber F = 5
+
+-- the words of the head
+unfoldable pub headOf : Configuration → State → Pilot → ℕ → List ℕ
+headOf o st p t =
+    flagOf (o .good) ∷ o .address .0 ∷ o .modem .0 ∷ o .nid .0 ∷ o .nmk .0 ∷ o .nmk .1
+    ∷ stateNumber st ∷ stateTime st ∷ stateCar st ∷ stateRun st ∷ pilotNumber p ∷ t ∷ []

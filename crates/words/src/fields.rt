@@ -1,0 +1,247 @@
+// Single fields: the numbers that a word may mean, and the numbers that are written.
+use messages::CarAddress;
+use messages::RunId;
+use rules::ASKED_TIME;
+use rules::AWAITING_TIME;
+use rules::Phase;
+use rules::Pilot;
+use rules::REPORTED_TIME;
+use rules::RETRIES;
+use rules::SOUNDING_TIME;
+use rules::SOUNDS;
+use rules::State;
+ghost use mathlib.Core.Path.{_≡_};
+ghost use Prim.Native.Nat.{_*_, _^_, _%_, _<_, min, max};
+ghost use Rattle.rules.specs.Constants.{soundCount};
+ghost use Rattle.words.specs.Words.{timeOf, phaseOf, profilesOf, mostSum, stateBy};
+ghost use Rattle.words.specs.Written.{flagOf, phaseNumber, phaseRetries, stateTime, stateCar, stateRun, pilotNumber};
+
+// How many sets of sound counts there are: two to the number of sounds.
+const HEARD_SETS: u64 = 1024;
+
+// The low 32 binary digits.
+pub(crate) fn low(x: u64) -> u32
+    ensures { λ r. ⌜ r ≡ x % 2 ^ 32 ⌝ }
+{
+    (x % 4294967296) as u32
+}
+
+// A set of sound counts.
+pub(crate) fn heard(x: u64) -> u16
+    ensures { λ r. ⌜ r ≡ x % 2 ^ soundCount ⌝ }
+{
+    (x % HEARD_SETS) as u16
+}
+
+// x, or 1 where it is 0.
+fn positive(x: u64) -> u64
+    ensures { λ r. ⌜ r ≡ max 1 x ⌝ }
+{
+    if x == 0 { 1 } else { x }
+}
+
+// x, or the most where it is more.
+fn at_most(most: u32, x: u64) -> u32
+    ensures { λ r. ⌜ r ≡ min most x ⌝ }
+{
+    if x < most as u64 { x as u32 } else { most }
+}
+
+// The same for a count.
+fn at_most_count(most: u8, x: u64) -> u8
+    ensures { λ r. ⌜ r ≡ min most x ⌝ }
+{
+    if x < most as u64 { x as u8 } else { most }
+}
+
+// The same for a sum.
+pub(crate) fn at_most_sum(most: u16, x: u16) -> u16
+    ensures { λ r. ⌜ r ≡ min most x ⌝ }
+{
+    if x < most { x } else { most }
+}
+
+// The greatest sum of so many profiles.
+pub(crate) fn most_sum(profiles: u8) -> u16
+    ensures { λ r. ⌜ r ≡ mostSum profiles ⌝ }
+{
+    255 * (profiles as u16)
+}
+
+// A phase's time left.
+fn time(start: u32, word: u64) -> u32
+    ensures { λ r. ⌜ r ≡ timeOf start word ⌝ }
+{
+    at_most(start, positive(word))
+}
+
+// A phase by its number.
+pub(crate) fn phase(number: u64, left: u64, retries: u64) -> Phase
+    ensures { λ r. ⌜ r ≡ phaseOf number left retries ⌝ }
+{
+    if number == 0 {
+        return Phase::Asked(time(ASKED_TIME, left));
+    }
+    if number == 1 {
+        return Phase::Sounding(time(SOUNDING_TIME, left));
+    }
+    if number == 2 {
+        return Phase::Reported {
+            left: time(REPORTED_TIME, left),
+            retries: at_most_count(RETRIES, retries),
+        };
+    }
+    Phase::Awaiting(time(AWAITING_TIME, left))
+}
+
+// The profiles counted.
+pub(crate) fn profiles(phase: Phase, word: u64) -> u8
+    ensures { λ r. ⌜ r ≡ profilesOf phase word ⌝ }
+{
+    match phase {
+        Phase::Asked(_) => 0,
+        Phase::Sounding(_) => at_most_count(SOUNDS - 1, word),
+        Phase::Reported {
+            left: _,
+            retries: _,
+        } => at_most_count(SOUNDS, positive(word)),
+        Phase::Awaiting(_) => at_most_count(SOUNDS, positive(word)),
+    }
+}
+
+// A state by its number.
+pub(crate) fn state(number: u64, left: u64, car: u64, run: u64) -> State
+    ensures { λ r. ⌜ r ≡ stateBy number left car run ⌝ }
+{
+    if number == 0 {
+        return State::Unmatched;
+    }
+    if number == 1 {
+        return State::Matching(low(left));
+    }
+    if number == 2 {
+        return State::Joining {
+            left: low(left),
+            car: CarAddress(car),
+            run: RunId(run),
+        };
+    }
+    State::Matched
+}
+
+// 1 for what is so.
+pub(crate) fn flag(b: bool) -> u64
+    ensures { λ r. ⌜ r ≡ flagOf b ⌝ }
+{
+    if b { 1 } else { 0 }
+}
+
+// The number of a phase.
+pub(crate) fn phase_number(phase: Phase) -> u64
+    ensures { λ r. ⌜ r ≡ phaseNumber phase ⌝ }
+{
+    match phase {
+        Phase::Asked(_) => 0,
+        Phase::Sounding(_) => 1,
+        Phase::Reported {
+            left: _,
+            retries: _,
+        } => 2,
+        Phase::Awaiting(_) => 3,
+    }
+}
+
+// A phase's retries left.
+pub(crate) fn phase_retries(phase: Phase) -> u8
+    ensures { λ r. ⌜ r ≡ phaseRetries phase ⌝ }
+{
+    match phase {
+        Phase::Asked(_) => 0,
+        Phase::Sounding(_) => 0,
+        Phase::Reported { left: _, retries } => retries,
+        Phase::Awaiting(_) => 0,
+    }
+}
+
+// A state's time left.
+pub(crate) fn state_time(state: State) -> u32
+    ensures { λ r. ⌜ r ≡ stateTime state ⌝ }
+{
+    match state {
+        State::Unmatched => 0,
+        State::Matching(left) => left,
+        State::Joining {
+            left,
+            car: _,
+            run: _,
+        } => left,
+        State::Matched => 0,
+    }
+}
+
+// The car that joins.
+pub(crate) fn state_car(state: State) -> u64
+    ensures { λ r. ⌜ r ≡ stateCar state ⌝ }
+{
+    match state {
+        State::Unmatched => 0,
+        State::Matching(_) => 0,
+        State::Joining {
+            left: _,
+            car,
+            run: _,
+        } => car.0,
+        State::Matched => 0,
+    }
+}
+
+// Its run.
+pub(crate) fn state_run(state: State) -> u64
+    ensures { λ r. ⌜ r ≡ stateRun state ⌝ }
+{
+    match state {
+        State::Unmatched => 0,
+        State::Matching(_) => 0,
+        State::Joining {
+            left: _,
+            car: _,
+            run,
+        } => run.0,
+        State::Matched => 0,
+    }
+}
+
+// The number of a pilot state.
+pub(crate) fn pilot_number(pilot: Pilot) -> u64
+    ensures { λ r. ⌜ r ≡ pilotNumber pilot ⌝ }
+{
+    match pilot {
+        Pilot::A => 0,
+        Pilot::B => 1,
+        Pilot::C => 2,
+        Pilot::D => 3,
+        Pilot::E => 4,
+        Pilot::F => 5,
+    }
+}
+
+// A wider number.
+pub(crate) fn from32(x: u32) -> u64
+    ensures { λ r. ⌜ (r ≡ x) × (x < 2 ^ 32) ⌝ }
+{
+    x as u64
+}
+
+// A wider set of sounds.
+pub(crate) fn from16(x: u16) -> u64
+    ensures { λ r. ⌜ r ≡ x ⌝ }
+{
+    x as u64
+}
+
+// A wider count.
+pub(crate) fn from8(x: u8) -> u64
+    ensures { λ r. ⌜ r ≡ x ⌝ }
+{
+    x as u64
+}

@@ -1,0 +1,100 @@
+// The head: the configuration, the state, the pilot state and the clock.
+use crate::HEAD;
+use crate::copies;
+use crate::fields;
+use messages::ModemAddress;
+use messages::Nid;
+use messages::Nmk;
+use messages::StationAddress;
+use rules::Configuration;
+use rules::Pilot;
+use rules::State;
+ghost use mathlib.Core.Path.{_≡_};
+ghost use Prim.Native.Nat.{_%_, _^_, _<_, _≤_};
+ghost use lib.ListN.{length, getD};
+ghost use lib.Seq.{sets};
+ghost use Rattle.words.specs.Words.{headCount, configOf, stateOf};
+ghost use Rattle.rules.specs.Numbers.{pilotOf};
+ghost use Rattle.words.specs.Written.{stateTime, headOf};
+
+// The configuration.
+pub(crate) fn config(words: &[u64]) -> Configuration
+    requires { ⌜ headCount ≤ length (now words) ⌝ }
+    ensures { λ r. ⌜ r ≡ configOf (now (words .entry)) ⌝ }
+{
+    let address = words[1];
+    let modem = words[2];
+    let nid = words[3];
+    let good = rules::is_good(StationAddress(address), ModemAddress(modem), Nid(nid));
+    Configuration {
+        good: (words[0] == 1) & good,
+        address: StationAddress(address),
+        modem: ModemAddress(modem),
+        nid: Nid(nid),
+        nmk: Nmk(words[4], words[5]),
+    }
+}
+
+// The state.
+pub(crate) fn state(words: &[u64]) -> State
+    requires { ⌜ headCount ≤ length (now words) ⌝ }
+    ensures { λ r. ⌜ r ≡ stateOf (now (words .entry)) ⌝ }
+{
+    fields::state(words[6], words[7], words[8], words[9])
+}
+
+// The pilot state.
+pub(crate) fn pilot(words: &[u64]) -> Pilot
+    requires { ⌜ headCount ≤ length (now words) ⌝ }
+    ensures { λ r. ⌜ r ≡ pilotOf (getD (now (words .entry)) 10 0) ⌝ }
+{
+    rules::pilot_of(words[10])
+}
+
+// The clock.
+pub(crate) fn clock(words: &[u64]) -> u32
+    requires { ⌜ headCount ≤ length (now words) ⌝ }
+    ensures { λ r. ⌜ r ≡ getD (now (words .entry)) 11 0 % 2 ^ 32 ⌝ }
+{
+    fields::low(words[11])
+}
+
+// The words of the head.
+fn head_words(config: Configuration, state: State, pilot: Pilot, clock: u32) -> [u64; HEAD]
+    ensures { λ r. ⌜ (r ≡ headOf config state pilot clock) × ((stateTime state < 2 ^ 32) × (clock < 2 ^ 32)) ⌝ }
+{
+    let address = config.address;
+    let modem = config.modem;
+    let nid = config.nid;
+    let nmk = config.nmk;
+    let good = fields::flag(config.good);
+    let number = fields::from32(crate::state_number(state));
+    let left = fields::from32(fields::state_time(state));
+    let car = fields::state_car(state);
+    let run = fields::state_run(state);
+    let at = fields::pilot_number(pilot);
+    let reading = fields::from32(clock);
+    [
+        good,
+        address.0,
+        modem.0,
+        nid.0,
+        nmk.0,
+        nmk.1,
+        number,
+        left,
+        car,
+        run,
+        at,
+        reading,
+    ]
+}
+
+// Stores the head.
+pub(crate) fn put(words: &mut [u64], config: Configuration, state: State, pilot: Pilot, clock: u32)
+    requires { ⌜ headCount ≤ length (now words) ⌝ }
+    ensures { λ _. ⌜ (now (words .exit) ≡ sets (now (words .entry)) 0 (headOf config state pilot clock)) × ((stateTime state < 2 ^ 32) × (clock < 2 ^ 32)) ⌝ }
+{
+    let head = head_words(config, state, pilot, clock);
+    copies::put_words(&head, words, 0);
+}

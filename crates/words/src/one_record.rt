@@ -1,0 +1,91 @@
+// One record: read out of its words and sums, and stored in them.
+use crate::HEAD;
+use crate::WIDTH;
+use crate::copies;
+use crate::fields;
+use messages::CarAddress;
+use messages::GROUPS;
+use messages::RunId;
+use records::timers;
+use rules::RECORDS;
+use rules::Record;
+ghost use mathlib.Core.Path.{_≡_};
+ghost use mathlib.Core.List.{List};
+ghost use Prim.Native.Nat.{ℕ, _<_};
+ghost use lib.ListN.{length, getD, set};
+ghost use Rattle.rules.specs.Constants.{recordCount};
+ghost use Rattle.rules.specs.Records.{isHeld};
+ghost use Rattle.rules.specs.Invariant.{GoodRecord};
+ghost use Rattle.rules.specs.Rules.{freeRecord};
+ghost use Rattle.words.specs.Words.{wordCount, sumCount, recordsOf, stationOf, withRecords};
+ghost use Rattle.words.specs.Written.{wordsOf};
+
+// Whether the record at a place is held.
+pub(crate) fn is_held(words: &[u64], i: usize) -> bool
+    requires { ⌜ (i < recordCount) × (length (now words) ≡ wordCount) ⌝ }
+    ensures { λ b. ⌜ ((sums : List ℕ) → b ≡ isHeld (getD (recordsOf (now (words .entry)) sums) i freeRecord)) ⌝ }
+{
+    let at = HEAD + WIDTH * i;
+    (words[at] == 1) & messages::is_unicast(words[at + 1])
+}
+
+// The car of the record at a place.
+pub(crate) fn car_at(words: &[u64], i: usize) -> CarAddress
+    requires { ⌜ (i < recordCount) × (length (now words) ≡ wordCount) ⌝ }
+    ensures { λ c. ⌜ ((sums : List ℕ) → c ≡ getD (recordsOf (now (words .entry)) sums) i freeRecord .car) ⌝ }
+{
+    CarAddress(words[HEAD + WIDTH * i + 1])
+}
+
+// The record at a place.
+pub(crate) fn read(words: &[u64], sums: &[u16], i: usize) -> Record
+    requires { ⌜ (i < recordCount) × ((length (now words) ≡ wordCount) × (length (now sums) ≡ sumCount)) ⌝ }
+    ensures { λ r. ⌜ r ≡ getD (recordsOf (now (words .entry)) (now (sums .entry))) i freeRecord ⌝ }
+{
+    let at = HEAD + WIDTH * i;
+    let held = is_held(words, i);
+    let car = car_at(words, i);
+    let phase = fields::phase(words[at + 3], words[at + 4], words[at + 5]);
+    let heard = fields::heard(words[at + 6]);
+    let profiles = fields::profiles(phase, words[at + 7]);
+    let own = copies::sums_at(sums, GROUPS * i, profiles);
+    Record {
+        car: car,
+        run: RunId(words[at + 2]),
+        held: held,
+        phase: phase,
+        heard: heard,
+        profiles: profiles,
+        sums: own,
+    }
+}
+
+// The words of a record.
+fn record_words(r: Record) -> [u64; WIDTH]
+    ensures { λ w. ⌜ w ≡ wordsOf r ⌝ }
+{
+    let car = r.car;
+    let run = r.run;
+    let phase = r.phase;
+    let held = fields::flag(r.held);
+    let number = fields::phase_number(phase);
+    let left = fields::from32(timers::time_of(phase));
+    let retries = fields::from8(fields::phase_retries(phase));
+    let heard = fields::from16(r.heard);
+    let profiles = fields::from8(r.profiles);
+    [held, car.0, run.0, number, left, retries, heard, profiles]
+}
+
+// Stores a record at its place; past the last place, nothing.
+pub(crate) fn store(words: &mut [u64], sums: &mut [u16], i: usize, r: Record)
+    requires { ⌜ GoodRecord r × ((length (now words) ≡ wordCount) × (length (now sums) ≡ sumCount)) ⌝ }
+    ensures { λ _. ⌜ stationOf (now (words .exit)) (now (sums .exit)) ≡ withRecords (stationOf (now (words .entry)) (now (sums .entry))) (set (recordsOf (now (words .entry)) (now (sums .entry))) i r) ⌝ }
+{
+    if RECORDS <= i {
+        return;
+    }
+    let own = record_words(r);
+    copies::put_words(&own, words, HEAD + WIDTH * i);
+    let groups = r.sums;
+    copies::put_sums(&groups, sums, GROUPS * i);
+}

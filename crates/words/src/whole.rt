@@ -1,0 +1,71 @@
+// The whole station: out of its words and sums, and into them.
+use crate::head;
+use crate::one_record;
+use rules::RECORDS;
+use rules::RecordArray;
+use rules::Station;
+ghost use mathlib.Core.Path.{_≡_};
+ghost use lib.ListN.{length};
+ghost use Rattle.rules.specs.Invariant.{GoodRecord, Invariant};
+ghost use Rattle.rules.specs.Lists.{All};
+ghost use Rattle.words.specs.Words.{wordCount, sumCount, recordsOf, stationOf, withRecords};
+
+// All records.
+fn read_all(words: &[u64], sums: &[u16]) -> RecordArray
+    requires { ⌜ (length (now words) ≡ wordCount) × (length (now sums) ≡ sumCount) ⌝ }
+    ensures { λ rs. ⌜ rs ≡ recordsOf (now (words .entry)) (now (sums .entry)) ⌝ }
+{
+    let first = one_record::read(words, sums, 0);
+    let mut rs = [first; RECORDS];
+    let mut i: usize = 0;
+    while i < RECORDS {
+        rs[i] = one_record::read(words, sums, i);
+        i = i + 1;
+    }
+    rs
+}
+
+// The station that the words and sums mean.
+pub(crate) fn unpack(words: &[u64], sums: &[u16]) -> Station
+    requires { ⌜ (length (now words) ≡ wordCount) × (length (now sums) ≡ sumCount) ⌝ }
+    ensures { λ r. ⌜ (r ≡ stationOf (now (words .entry)) (now (sums .entry))) × Invariant r ⌝ }
+{
+    let config = head::config(words);
+    let state = head::state(words);
+    let pilot = head::pilot(words);
+    let clock = head::clock(words);
+    let records = read_all(words, sums);
+    Station {
+        config: config,
+        state: state,
+        pilot: pilot,
+        clock: clock,
+        records: records,
+    }
+}
+
+// Stores all records.
+fn store_all(records: RecordArray, words: &mut [u64], sums: &mut [u16])
+    requires { ⌜ All GoodRecord records × ((length (now words) ≡ wordCount) × (length (now sums) ≡ sumCount)) ⌝ }
+    ensures { λ _. ⌜ stationOf (now (words .exit)) (now (sums .exit)) ≡ withRecords (stationOf (now (words .entry)) (now (sums .entry))) records ⌝ }
+{
+    let mut i: usize = 0;
+    while i < RECORDS {
+        let r = records[i];
+        one_record::store(words, sums, i, r);
+        i = i + 1;
+    }
+}
+
+// Stores a station.
+pub(crate) fn pack(station: Station, words: &mut [u64], sums: &mut [u16])
+    requires { ⌜ Invariant station × ((length (now words) ≡ wordCount) × (length (now sums) ≡ sumCount)) ⌝ }
+    ensures { λ _. ⌜ stationOf (now (words .exit)) (now (sums .exit)) ≡ station ⌝ }
+{
+    let config = station.config;
+    let state = station.state;
+    let pilot = station.pilot;
+    let records = station.records;
+    head::put(words, config, state, pilot, station.clock);
+    store_all(records, words, sums);
+}
