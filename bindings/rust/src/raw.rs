@@ -1,0 +1,60 @@
+//! What libcapi.a exports; include/lahzavar.h has the same in C.
+
+use crate::{SUMS, WORDS};
+
+/// A refusal or 0, an indication or 0, the frames reported and their octets.
+#[repr(C)]
+pub struct Answered {
+    pub refusal: u32,
+    pub indication: u32,
+    pub frames: u32,
+    pub octets: u32,
+}
+
+/// A refusal or 0, and the sounds heard.
+#[repr(C)]
+pub struct Heard {
+    pub refusal: u32,
+    pub sounds: u32,
+}
+
+pub type Words = [u64; WORDS];
+pub type Sums = [u16; SUMS];
+
+extern "C" {
+    pub fn lahzavar_configure(
+        words: &mut Words,
+        sums: &mut Sums,
+        address: u64,
+        modem: u64,
+        nid: u64,
+        nmk_first: u64,
+        nmk_last: u64,
+    ) -> Answered;
+    pub fn lahzavar_frame(
+        words: &mut Words,
+        sums: &mut Sums,
+        octets: *const u8,
+        length: usize,
+        out: *mut u8,
+        room: usize,
+    ) -> Answered;
+    pub fn lahzavar_tick(
+        words: &mut Words,
+        sums: &mut Sums,
+        reading: u32,
+        out: *mut u8,
+        room: usize,
+    ) -> Answered;
+    pub fn lahzavar_pilot(words: &mut Words, sums: &mut Sums, pilot: u32, reading: u32)
+        -> Answered;
+    pub fn lahzavar_terminate(words: &mut Words, sums: &mut Sums) -> Answered;
+    pub fn lahzavar_link_up(words: &mut Words, sums: &mut Sums) -> Answered;
+    pub fn lahzavar_sounds_heard(words: &Words, sums: &Sums, car: u64) -> Heard;
+    pub fn lahzavar_state(words: &Words) -> u32;
+    pub fn lahzavar_records_held(words: &Words) -> u32;
+    pub fn lahzavar_version() -> u32;
+    pub fn lahzavar_words() -> u32;
+    pub fn lahzavar_sums() -> u32;
+    pub fn lahzavar_least_output() -> u32;
+}

@@ -1,0 +1,71 @@
+//! The frames that cars and the modem send to a station; a driver needs none of this.
+
+use lahzavar::GROUPS;
+
+pub type Address = [u8; 6];
+
+pub const PARM_CNF: u16 = 0x6065;
+pub const ATTEN_CHAR_IND: u16 = 0x606E;
+pub const MATCH_CNF: u16 = 0x607D;
+
+const BROADCAST: Address = [0xFF; 6];
+const HEAD: usize = 19;
+const LEAST: usize = 60;
+
+/// One car: its address and the RunID of its matching run.
+#[derive(Clone, Copy)]
+pub struct Car {
+    pub address: Address,
+    pub run: [u8; 8],
+}
+
+/// The message type of a frame, or 0 where it has none.
+pub fn message_type(frame: &[u8]) -> u16 {
+    match frame {
+        [_, _, _, _, _, _, _, _, _, _, _, _, _, _, _, low, high, ..] => {
+            u16::from_le_bytes([*low, *high])
+        }
+        _ => 0,
+    }
+}
+
+/// A frame, zero padded.
+fn frame(to: Address, from: Address, kind: u16, payload: &[&[u8]]) -> Vec<u8> {
+    let head = [&to[..], &from, &[0x88, 0xE1, 0x01], &kind.to_le_bytes(), &[0, 0]].concat();
+    let mut frame = [head, payload.concat()].concat();
+    assert!(frame.len() >= HEAD);
+    frame.resize(frame.len().max(LEAST), 0);
+    frame
+}
+
+/// What the modem measured of one sound of a car, the same value in every group.
+pub fn profile(modem: Address, station: Address, car: Address, value: u8) -> Vec<u8> {
+    frame(station, modem, 0x6086, &[&car, &[GROUPS as u8, 0], &[value; GROUPS]])
+}
+
+impl Car {
+    pub fn parm_req(&self) -> Vec<u8> {
+        frame(BROADCAST, self.address, 0x6064, &[&[0; 2], &self.run])
+    }
+
+    pub fn start(&self) -> Vec<u8> {
+        let payload: &[&[u8]] = &[&[0, 0, 0x0A, 0x06, 0x01], &self.address, &self.run];
+        frame(BROADCAST, self.address, 0x606A, payload)
+    }
+
+    pub fn sound(&self, count: u8) -> Vec<u8> {
+        let payload: &[&[u8]] = &[&[0; 19], &[count], &self.run, &[0; 8], &[count; 16]];
+        frame(BROADCAST, self.address, 0x6076, payload)
+    }
+
+    pub fn rsp(&self, station: Address) -> Vec<u8> {
+        let payload: &[&[u8]] = &[&[0; 2], &self.address, &self.run, &[0; 35]];
+        frame(station, self.address, 0x606F, payload)
+    }
+
+    pub fn match_req(&self, station: Address) -> Vec<u8> {
+        let ids: [&[u8]; 4] = [&[0; 17], &self.address, &[0; 17], &station];
+        let payload = [&[0, 0, 0x3E, 0][..], &ids.concat(), &self.run, &[0; 8]];
+        frame(station, self.address, 0x607C, &payload)
+    }
+}

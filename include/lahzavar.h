@@ -1,0 +1,242 @@
+/*
+ * Lahzavar: the charging station's side of SLAC matching (ISO 15118-3).
+ *
+ * A driver keeps one struct lahzavar_station for each outlet, configures it, and hands it every event: frames from the
+ * modem, clock readings, pilot states, terminate and link up. The answer says which frames to send, and whether the link
+ * is established or the matching has failed. Link with libcapi.a.
+ *
+ * What a caller owes, and all that it owes:
+ * - The station was configured before its first other call, and nothing but these calls writes it.
+ * - One call at a time for a station: an interrupt must not call while another call is under way.
+ * - Frame and output are memory of the caller, of at least the lengths given, and overlap neither each other nor the
+ *   station. A driver that receives and sends in one buffer lends two parts of it.
+ *
+ * Every call comes back, for any octets, any length and any number. A refused call changes neither station nor output.
+ * No call allocates, blocks, or keeps a pointer.
+ */
+#ifndef LAHZAVAR_H
+#define LAHZAVAR_H
+
+#include <stddef.h>
+#include <stdint.h>
+
+#ifdef __cplusplus
+extern "C" {
+#endif
+
+/* The version of this header, 0.1.0: major * 65536 + minor * 256 + patch. */
+#define LAHZAVAR_VERSION 256u
+
+/* The most cars that are in matching at once. */
+#define LAHZAVAR_RECORDS 5
+/* The carrier groups of an attenuation profile. */
+#define LAHZAVAR_GROUPS 58
+/* The octets of one report, CM_ATTEN_CHAR.IND. */
+#define LAHZAVAR_REPORT_OCTETS (71 + LAHZAVAR_GROUPS)
+/* The least room that the frame and tick calls ask for: a report to every car. */
+#define LAHZAVAR_LEAST_OUTPUT (LAHZAVAR_REPORT_OCTETS * LAHZAVAR_RECORDS)
+/* The sizes of a station's two arrays. */
+#define LAHZAVAR_WORDS (12 + 8 * LAHZAVAR_RECORDS)
+#define LAHZAVAR_SUMS (LAHZAVAR_GROUPS * LAHZAVAR_RECORDS)
+
+/* Why a call was refused; 0 where it was accepted. */
+enum lahzavar_refusal {
+    LAHZAVAR_ACCEPTED = 0,
+    LAHZAVAR_TOO_SHORT = 1,          /* the frame ends before its payload does */
+    LAHZAVAR_BAD_HEAD = 2,           /* no SLAC frame: octets 12-14 or 17-18 */
+    LAHZAVAR_UNKNOWN_TYPE = 3,       /* none of the nine messages */
+    LAHZAVAR_TOO_LONG = 4,           /* longer than its message is written */
+    LAHZAVAR_BAD_ADDRESS = 5,        /* source, destination or the profile's car of the wrong kind */
+    LAHZAVAR_BAD_OCTET = 6,          /* another octet that is fixed, equal to one before, or limited */
+    LAHZAVAR_NOT_FOR_US = 7,         /* to another station, from another modem, or from ourselves */
+    LAHZAVAR_WRONG_STATE = 8,        /* the station's state takes no such event; a pilot that is none */
+    LAHZAVAR_ADMISSION_CLOSED = 9,   /* a new car after the end of admission */
+    LAHZAVAR_RECORDS_FULL = 10,      /* a new car while every record is held */
+    LAHZAVAR_NO_RECORD = 11,         /* this car holds no record, or another run */
+    LAHZAVAR_WRONG_PHASE = 12,       /* the car's record is in another phase */
+    LAHZAVAR_BAD_SOUND_COUNT = 13,   /* a sound count over 9, or heard already */
+    LAHZAVAR_TICK_GAP = 14,          /* more than 60,000 ms since the last reading */
+    LAHZAVAR_OUTPUT_TOO_SHORT = 15,  /* less room than LAHZAVAR_LEAST_OUTPUT */
+    LAHZAVAR_BAD_CONFIGURATION = 16, /* the station was badly configured */
+    LAHZAVAR_ONLY_FOR_CARS = 17      /* a message that only a car receives */
+};
+
+/* What the charge controller is to be told. */
+enum lahzavar_indication {
+    LAHZAVAR_NO_INDICATION = 0,
+    LAHZAVAR_NO_LINK = 1,
+    LAHZAVAR_LINK_ESTABLISHED = 2
+};
+
+/* The station's state. */
+enum lahzavar_state_number {
+    LAHZAVAR_UNMATCHED = 0,
+    LAHZAVAR_MATCHING = 1,
+    LAHZAVAR_JOINING = 2,
+    LAHZAVAR_MATCHED = 3
+};
+
+/* The control pilot's state: a car is plugged in at B, C and D. */
+enum lahzavar_pilot_state {
+    LAHZAVAR_PILOT_A = 0,
+    LAHZAVAR_PILOT_B = 1,
+    LAHZAVAR_PILOT_C = 2,
+    LAHZAVAR_PILOT_D = 3,
+    LAHZAVAR_PILOT_E = 4,
+    LAHZAVAR_PILOT_F = 5
+};
+
+/* A station, kept by the caller; its fields are the library's own, and hold the NMK. */
+struct lahzavar_station {
+    uint64_t private_words[LAHZAVAR_WORDS];
+    uint16_t private_sums[LAHZAVAR_SUMS];
+};
+
+/* The answer to an event: a refusal, or how many frames stand in the output, their octets, and an indication. */
+struct lahzavar_answer {
+    uint32_t refusal;    /* enum lahzavar_refusal; where it is not 0, the rest is 0 */
+    uint32_t indication; /* enum lahzavar_indication */
+    uint32_t frames;     /* frames to send, back to back from the output's first octet */
+    uint32_t octets;     /* what they take together */
+};
+
+/* The answer to the service query: a refusal, or the number of sounds heard. */
+struct lahzavar_heard {
+    uint32_t refusal;
+    uint32_t sounds;
+};
+
+/*
+ * What the library exports. Use the functions below instead, which take a struct lahzavar_station and allow NULL for no
+ * octets; a pointer passed here is never NULL.
+ */
+struct lahzavar_answer lahzavar_configure(uint64_t *words, uint16_t *sums, uint64_t address, uint64_t modem, uint64_t nid,
+                                          uint64_t nmk_first, uint64_t nmk_last);
+struct lahzavar_answer lahzavar_frame(uint64_t *words, uint16_t *sums, const uint8_t *octets, size_t length, uint8_t *out,
+                                      size_t room);
+struct lahzavar_answer lahzavar_tick(uint64_t *words, uint16_t *sums, uint32_t reading, uint8_t *out, size_t room);
+struct lahzavar_answer lahzavar_pilot(uint64_t *words, uint16_t *sums, uint32_t pilot, uint32_t reading);
+struct lahzavar_answer lahzavar_terminate(uint64_t *words, uint16_t *sums);
+struct lahzavar_answer lahzavar_link_up(uint64_t *words, uint16_t *sums);
+struct lahzavar_heard lahzavar_sounds_heard(const uint64_t *words, const uint16_t *sums, uint64_t car);
+uint32_t lahzavar_state(const uint64_t *words);
+uint32_t lahzavar_records_held(const uint64_t *words);
+uint32_t lahzavar_version(void);
+uint32_t lahzavar_words(void);
+uint32_t lahzavar_sums(void);
+uint32_t lahzavar_least_output(void);
+
+/* 1 where the library is the one that this header describes: ask once, before the first station. */
+static inline int lahzavar_library_fits(void)
+{
+    return lahzavar_version() == LAHZAVAR_VERSION && lahzavar_words() == LAHZAVAR_WORDS &&
+           lahzavar_sums() == LAHZAVAR_SUMS && lahzavar_least_output() == LAHZAVAR_LEAST_OUTPUT;
+}
+
+/* The number that so many octets stand for, at most eight, the first one most significant. */
+static inline uint64_t lahzavar_number(const uint8_t *octets, size_t count)
+{
+    uint64_t number = 0;
+    size_t at;
+    for (at = 0; at < count; at++) {
+        number = number << 8 | octets[at];
+    }
+    return number;
+}
+
+/* An address as a number, from its six octets as they stand in a frame. */
+static inline uint64_t lahzavar_address(const uint8_t octets[6])
+{
+    return lahzavar_number(octets, 6);
+}
+
+/* A NID as a number, from its seven octets as they stand in a frame: low octet first. */
+static inline uint64_t lahzavar_nid(const uint8_t octets[7])
+{
+    uint64_t number = 0;
+    size_t at;
+    for (at = 7; at > 0; at--) {
+        number = number << 8 | octets[at - 1];
+    }
+    return number;
+}
+
+/*
+ * Configures a station: Unmatched, no records, pilot state A, clock reading 0. Refused with LAHZAVAR_BAD_CONFIGURATION
+ * unless both addresses are unicast and differ and the NID is below 2^54; the station then answers that to everything.
+ * ISO 15118-3 wants a fresh NMK for each plug-in, so configure anew before each.
+ */
+static inline struct lahzavar_answer lahzavar_station_configure(struct lahzavar_station *station, uint64_t address,
+                                                                uint64_t modem, uint64_t nid, const uint8_t nmk[16])
+{
+    return lahzavar_configure(station->private_words, station->private_sums, address, modem, nid, lahzavar_number(nmk, 8),
+                              lahzavar_number(nmk + 8, 8));
+}
+
+/* A frame from the modem, from its destination address on and without its check sequence; NULL stands for no octets. */
+static inline struct lahzavar_answer lahzavar_station_frame(struct lahzavar_station *station, const uint8_t *octets,
+                                                            size_t length, uint8_t *out, size_t room)
+{
+    static const uint8_t no_octets = 0;
+    uint8_t no_room = 0;
+    return lahzavar_frame(station->private_words, station->private_sums, octets != NULL ? octets : &no_octets,
+                          octets != NULL ? length : 0, out != NULL ? out : &no_room, out != NULL ? room : 0);
+}
+
+/* A reading of a free-running millisecond clock that wraps at 2^32; every 10 ms is often enough. */
+static inline struct lahzavar_answer lahzavar_station_tick(struct lahzavar_station *station, uint32_t reading, uint8_t *out,
+                                                           size_t room)
+{
+    uint8_t no_room = 0;
+    return lahzavar_tick(station->private_words, station->private_sums, reading, out != NULL ? out : &no_room,
+                         out != NULL ? room : 0);
+}
+
+/* The control pilot's state, at each change, with the clock's reading. */
+static inline struct lahzavar_answer lahzavar_station_pilot(struct lahzavar_station *station, uint32_t pilot,
+                                                            uint32_t reading)
+{
+    return lahzavar_pilot(station->private_words, station->private_sums, pilot, reading);
+}
+
+/* Ends the matching or the link; a new matching begins with the next plug-in. */
+static inline struct lahzavar_answer lahzavar_station_terminate(struct lahzavar_station *station)
+{
+    return lahzavar_terminate(station->private_words, station->private_sums);
+}
+
+/* The modem has a link in the station's network. */
+static inline struct lahzavar_answer lahzavar_station_link_up(struct lahzavar_station *station)
+{
+    return lahzavar_link_up(station->private_words, station->private_sums);
+}
+
+/* How many sounds of a car's run were heard; LAHZAVAR_NO_RECORD where the car holds no record. */
+static inline struct lahzavar_heard lahzavar_station_sounds_heard(const struct lahzavar_station *station, uint64_t car)
+{
+    return lahzavar_sounds_heard(station->private_words, station->private_sums, car);
+}
+
+/* The state, one of enum lahzavar_state_number. */
+static inline uint32_t lahzavar_station_state(const struct lahzavar_station *station)
+{
+    return lahzavar_state(station->private_words);
+}
+
+/* How many records cars hold. */
+static inline uint32_t lahzavar_station_records_held(const struct lahzavar_station *station)
+{
+    return lahzavar_records_held(station->private_words);
+}
+
+/* The octets of each frame that an answer reports, all of one length; 0 where it reports none. */
+static inline size_t lahzavar_frame_octets(struct lahzavar_answer answer)
+{
+    return answer.frames == 0 ? 0 : answer.octets / answer.frames;
+}
+
+#ifdef __cplusplus
+}
+#endif
+
+#endif

@@ -1,0 +1,220 @@
+/* The numbers of lahzavar.h against the library: sizes, and each refusal, indication, state and pilot by what it does. */
+#include "car_frames.h"
+#include "lahzavar.h"
+
+#include <stdio.h>
+
+static const uint8_t us[6] = {2, 0, 0, 0, 0, 0xAA};
+static const uint8_t modem[6] = {2, 0, 0, 0, 0, 0xBB};
+static const uint8_t nid[7] = {1, 2, 3, 4, 5, 6, 7};
+static const uint8_t nmk[16] = {0, 1, 2, 3, 4, 5, 6, 7, 8, 9, 10, 11, 12, 13, 14, 15};
+static const struct car first = {{2, 0, 0, 0, 0, 1}, {1, 2, 3, 4, 5, 6, 7, 8}};
+
+static struct lahzavar_station station;
+static uint8_t out[LAHZAVAR_LEAST_OUTPUT + 1];
+static uint8_t frame[FRAME_MOST];
+static int faults;
+
+/* Counts a number that is not the expected one, and says which. */
+static void same(const char *what, size_t found, size_t expected)
+{
+    if (found != expected) {
+        fprintf(stderr, "constants: %s is %lu, not %lu\n", what, (unsigned long)found, (unsigned long)expected);
+        faults++;
+    }
+}
+
+static struct car car_at(unsigned last)
+{
+    struct car car = first;
+    car.address[5] = (uint8_t)last;
+    return car;
+}
+
+static struct lahzavar_answer hear(size_t length)
+{
+    return lahzavar_station_frame(&station, frame, length, out, LAHZAVAR_LEAST_OUTPUT);
+}
+
+static struct lahzavar_answer tick(uint32_t reading)
+{
+    return lahzavar_station_tick(&station, reading, out, LAHZAVAR_LEAST_OUTPUT);
+}
+
+static void configure(void)
+{
+    struct lahzavar_answer answer =
+        lahzavar_station_configure(&station, lahzavar_address(us), lahzavar_address(modem), lahzavar_nid(nid), nmk);
+    same("configuring", answer.refusal, LAHZAVAR_ACCEPTED);
+}
+
+static void plug_in(void)
+{
+    configure();
+    same("plug-in", lahzavar_station_pilot(&station, LAHZAVAR_PILOT_B, 0).refusal, LAHZAVAR_ACCEPTED);
+}
+
+static void sizes(void)
+{
+    same("version", lahzavar_version(), LAHZAVAR_VERSION);
+    same("words", lahzavar_words(), LAHZAVAR_WORDS);
+    same("sums", lahzavar_sums(), LAHZAVAR_SUMS);
+    same("least output", lahzavar_least_output(), LAHZAVAR_LEAST_OUTPUT);
+    same("library fits", (size_t)lahzavar_library_fits(), 1);
+    same("answer", sizeof(struct lahzavar_answer), 16);
+    same("heard", sizeof(struct lahzavar_heard), 8);
+    same("sums in the station", offsetof(struct lahzavar_station, private_sums), 8 * LAHZAVAR_WORDS);
+    same("address", (size_t)lahzavar_address(us), 0x0200000000AAu);
+    same("NID", (size_t)lahzavar_nid(nid), 0x07060504030201u);
+}
+
+/* P1 of the bench cases, and its reply P2. */
+static void first_case(void)
+{
+    static const uint8_t reply[] = {2,    0,    0,    0,    0,    1,    2, 0, 0, 0, 0, 0xAA, 0x88, 0xE1, 1, 0x65, 0x60, 0, 0,
+                                    0xFF, 0xFF, 0xFF, 0xFF, 0xFF, 0xFF, 10, 6, 1, 2, 0, 0, 0, 0, 1, 0, 0,
+                                    1,    2,    3,    4,    5,    6,    7,  8};
+    struct lahzavar_answer answer;
+    plug_in();
+    memset(out, 0xEE, sizeof out);
+    answer = hear(write_parm_req(frame, &first));
+    same("frames of P2", answer.frames, 1);
+    same("octets of P2", answer.octets, 60);
+    same("octets of each frame", lahzavar_frame_octets(answer), 60);
+    same("P2", (size_t)memcmp(out, reply, sizeof reply), 0);
+    same("octet behind P2", out[60], 0xEE);
+    same("records held", lahzavar_station_records_held(&station), 1);
+}
+
+static void refusals_of_reading(void)
+{
+    plug_in();
+    same("too short", lahzavar_station_frame(&station, NULL, 60, out, sizeof out).refusal, LAHZAVAR_TOO_SHORT);
+    (void)write_parm_req(frame, &first);
+    same("too long", hear(61).refusal, LAHZAVAR_TOO_LONG);
+    frame[19] = 1;
+    same("bad octet", hear(60).refusal, LAHZAVAR_BAD_OCTET);
+    frame[6] = 1;
+    same("bad address", hear(60).refusal, LAHZAVAR_BAD_ADDRESS);
+    frame[15] = 0;
+    same("unknown type", hear(60).refusal, LAHZAVAR_UNKNOWN_TYPE);
+    frame[12] = 0;
+    same("bad head", hear(60).refusal, LAHZAVAR_BAD_HEAD);
+    same("output too short", lahzavar_station_frame(&station, frame, 60, out, LAHZAVAR_LEAST_OUTPUT - 1).refusal,
+         LAHZAVAR_OUTPUT_TOO_SHORT);
+    same("no output", lahzavar_station_frame(&station, frame, 60, NULL, sizeof out).refusal, LAHZAVAR_OUTPUT_TOO_SHORT);
+    same("no output of a tick", lahzavar_station_tick(&station, 1, NULL, sizeof out).refusal, LAHZAVAR_OUTPUT_TOO_SHORT);
+    (void)write_head(frame, first.address, us, CM_SLAC_PARM_CNF, 25);
+    memset(frame + 19, 0xFF, 6);
+    frame[25] = 10;
+    frame[26] = 6;
+    frame[27] = 1;
+    memcpy(frame + 28, first.address, 6);
+    same("only for cars", hear(60).refusal, LAHZAVAR_ONLY_FOR_CARS);
+    same("not for us", hear(write_rsp(frame, &first, modem)).refusal, LAHZAVAR_NOT_FOR_US);
+}
+
+static void refusals_of_matching(void)
+{
+    unsigned last;
+    struct car car = car_at(LAHZAVAR_RECORDS + 1);
+    plug_in();
+    same("no record", hear(write_start(frame, &first)).refusal, LAHZAVAR_NO_RECORD);
+    for (last = 1; last <= LAHZAVAR_RECORDS; last++) {
+        struct car held = car_at(last);
+        same("a record", hear(write_parm_req(frame, &held)).refusal, LAHZAVAR_ACCEPTED);
+    }
+    same("records full", hear(write_parm_req(frame, &car)).refusal, LAHZAVAR_RECORDS_FULL);
+    same("wrong phase", hear(write_match_req(frame, &first, us)).refusal, LAHZAVAR_WRONG_PHASE);
+    same("start", hear(write_start(frame, &first)).refusal, LAHZAVAR_ACCEPTED);
+    same("sound 9", hear(write_sound(frame, &first, 9)).refusal, LAHZAVAR_ACCEPTED);
+    same("sound 10", hear(write_sound(frame, &first, 10)).refusal, LAHZAVAR_BAD_SOUND_COUNT);
+    same("sounds heard", lahzavar_station_sounds_heard(&station, lahzavar_address(first.address)).sounds, 1);
+    same("sounds of no record", lahzavar_station_sounds_heard(&station, lahzavar_address(us)).refusal, LAHZAVAR_NO_RECORD);
+    same("link up", lahzavar_station_link_up(&station).refusal, LAHZAVAR_WRONG_STATE);
+    same("pilot 6", lahzavar_station_pilot(&station, 6, 0).refusal, LAHZAVAR_WRONG_STATE);
+    same("tick gap", tick(60001).refusal, LAHZAVAR_TICK_GAP);
+    same("records held", lahzavar_station_records_held(&station), LAHZAVAR_RECORDS);
+    same("tick", tick(399).refusal, LAHZAVAR_ACCEPTED);
+    same("restart", hear(write_parm_req(frame, &first)).refusal, LAHZAVAR_ACCEPTED);
+    same("late tick", tick(400).refusal, LAHZAVAR_ACCEPTED);
+    same("records left", lahzavar_station_records_held(&station), 1);
+}
+
+/* A record keeps Matching open past the end of admission, and no new car comes in. */
+static void end_of_admission(void)
+{
+    struct car late = car_at(2);
+    plug_in();
+    same("tick", tick(49999).refusal, LAHZAVAR_ACCEPTED);
+    same("request", hear(write_parm_req(frame, &first)).refusal, LAHZAVAR_ACCEPTED);
+    same("tick", tick(50000).refusal, LAHZAVAR_ACCEPTED);
+    same("admission closed", hear(write_parm_req(frame, &late)).refusal, LAHZAVAR_ADMISSION_CLOSED);
+    same("no link", tick(51000).indication, LAHZAVAR_NO_LINK);
+    same("unmatched", lahzavar_station_state(&station), LAHZAVAR_UNMATCHED);
+}
+
+static void bad_configuration(void)
+{
+    struct lahzavar_station other;
+    struct lahzavar_answer answer =
+        lahzavar_station_configure(&other, lahzavar_address(us), lahzavar_address(us), lahzavar_nid(nid), nmk);
+    same("bad configuration", answer.refusal, LAHZAVAR_BAD_CONFIGURATION);
+    same("frame", lahzavar_station_frame(&other, NULL, 0, NULL, 0).refusal, LAHZAVAR_BAD_CONFIGURATION);
+    same("tick", lahzavar_station_tick(&other, 0, NULL, 0).refusal, LAHZAVAR_BAD_CONFIGURATION);
+    same("pilot", lahzavar_station_pilot(&other, 6, 0).refusal, LAHZAVAR_BAD_CONFIGURATION);
+    same("terminate", lahzavar_station_terminate(&other).refusal, LAHZAVAR_BAD_CONFIGURATION);
+    same("link up", lahzavar_station_link_up(&other).refusal, LAHZAVAR_BAD_CONFIGURATION);
+    same("query", lahzavar_station_sounds_heard(&other, 1).refusal, LAHZAVAR_BAD_CONFIGURATION);
+    same("state", lahzavar_station_state(&other), LAHZAVAR_UNMATCHED);
+}
+
+static void states_and_indications(void)
+{
+    unsigned left;
+    plug_in();
+    same("matching", lahzavar_station_state(&station), LAHZAVAR_MATCHING);
+    (void)hear(write_parm_req(frame, &first));
+    (void)hear(write_start(frame, &first));
+    for (left = 10; left > 1; left--) {
+        same("profile", hear(write_profile(frame, modem, us, first.address, left)).frames, 0);
+    }
+    same("report", hear(write_profile(frame, modem, us, first.address, 1)).octets, LAHZAVAR_REPORT_OCTETS);
+    (void)hear(write_rsp(frame, &first, us));
+    same("confirmation", hear(write_match_req(frame, &first, us)).octets, 109);
+    same("joining", lahzavar_station_state(&station), LAHZAVAR_JOINING);
+    same("link established", lahzavar_station_link_up(&station).indication, LAHZAVAR_LINK_ESTABLISHED);
+    same("matched", lahzavar_station_state(&station), LAHZAVAR_MATCHED);
+    same("wrong state", hear(write_parm_req(frame, &first)).refusal, LAHZAVAR_WRONG_STATE);
+    same("terminate", lahzavar_station_terminate(&station).indication, LAHZAVAR_NO_INDICATION);
+    plug_in();
+    same("terminate in matching", lahzavar_station_terminate(&station).indication, LAHZAVAR_NO_LINK);
+}
+
+/* B, C and D are a plug-in; A, E and F a loss. */
+static void pilots(void)
+{
+    static const uint32_t plugged[] = {LAHZAVAR_PILOT_B, LAHZAVAR_PILOT_C, LAHZAVAR_PILOT_D};
+    static const uint32_t lost[] = {LAHZAVAR_PILOT_A, LAHZAVAR_PILOT_E, LAHZAVAR_PILOT_F};
+    size_t at;
+    for (at = 0; at < 3; at++) {
+        configure();
+        same("a plug-in", lahzavar_station_pilot(&station, plugged[at], 0).refusal, LAHZAVAR_ACCEPTED);
+        same("matching", lahzavar_station_state(&station), LAHZAVAR_MATCHING);
+        same("a loss", lahzavar_station_pilot(&station, lost[at], 0).indication, LAHZAVAR_NO_LINK);
+        same("unmatched", lahzavar_station_state(&station), LAHZAVAR_UNMATCHED);
+    }
+}
+
+int main(void)
+{
+    sizes();
+    first_case();
+    refusals_of_reading();
+    refusals_of_matching();
+    end_of_admission();
+    bad_configuration();
+    states_and_indications();
+    pilots();
+    return faults == 0 ? 0 : 1;
+}
