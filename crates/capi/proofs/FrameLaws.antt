@@ -33,17 +33,18 @@ use Rattle.records.specs.declared.find.Found.the-variants.{Own}
 use Rattle.records.specs.Places.{placeOf}
 use Rattle.records.proofs.find.Found as places
 use Rattle.records.proofs.PlaceLaws.{found, not-own}
-use Rattle.station.specs.declared.admission.Admission.{Admission}
-use Rattle.station.specs.declared.judge.Judged.{Judged}
-use Rattle.station.specs.declared.judge.Judged.the-variants as judged
-use Rattle.station.specs.declared.judge.OwnMessage.{OwnMessage}
-use Rattle.station.specs.declared.judge.Request as code
-use Rattle.station.specs.Frames.{Ready, admissionRule, admissionOf, ownRule, settled}
-use Rattle.station.specs.Judge.{Asking, ownMessageOf, judgedOf, judgeRule}
+use Rattle.receiving.specs.declared.admission.Admission.{Admission}
+use Rattle.receiving.specs.declared.judge.Judged.{Judged}
+use Rattle.receiving.specs.declared.judge.Judged.the-variants as judged
+use Rattle.receiving.specs.declared.judge.OwnMessage.{OwnMessage}
+use Rattle.receiving.specs.declared.judge.Request as code
+use Rattle.receiving.specs.AtRecord.{admissionRule, admissionOf, ownRule}
+use Rattle.station.specs.Frames.{Ready, settled}
+use Rattle.receiving.specs.Judge.{Asking, ownMessageOf, judgedOf, judgeRule}
 use Rattle.station.proofs.ComesLaws.{state-other}
 use Rattle.station.proofs.OwnLaws.{own-none, own-settled}
 use Rattle.station.proofs.ParmLaws.{parm-answered}
-use Rattle.station.proofs.JudgeLaws.{taken, frame-judged, judges}
+use Rattle.receiving.proofs.JudgeLaws.{taken, frame-judged, judges}
 use Rattle.words.specs.Words.{configOf, stateOf, recordsOf, stationOf, withRecords}
 use Rattle.words.proofs.Meant.{meant}
 use Rattle.capi.specs.declared.Answered.{Answered}

@@ -21,10 +21,11 @@ use Rattle.rules.proofs.ReceivedLaws.{OctetRequest}
 use Rattle.records.specs.declared.requests.Kept as code
 use Rattle.records.specs.declared.requests.RunMessage.the-variants.{Start, Sound, Rsp}
 use Rattle.records.specs.Requests.{effectOf, Keeps}
-use Rattle.station.specs.declared.judge.OwnMessage.{OwnMessage}
-use Rattle.station.specs.declared.judge.OwnMessage.the-variants.{Run, Profile}
-use Rattle.station.specs.Judge.{ownMessageOf}
-use Rattle.station.specs.Frames.{ownRule, KeepsGood}
+use Rattle.receiving.specs.declared.judge.OwnMessage.{OwnMessage}
+use Rattle.receiving.specs.declared.judge.OwnMessage.the-variants.{Run, Profile}
+use Rattle.receiving.specs.Judge.{ownMessageOf}
+use Rattle.receiving.specs.AtRecord.{ownRule}
+use Rattle.station.specs.Frames.{KeepsGood}
 use Rattle.station.proofs.OwnLaws.{change-own}
 
 -- the group values of what was read

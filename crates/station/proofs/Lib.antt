@@ -1,6 +1,5 @@
 pub mod StepLaws
 pub mod SpliceLaws
-pub mod JudgeLaws
 pub mod SendLaws
 pub mod ComesLaws
 pub mod ParmLaws

@@ -18,10 +18,11 @@ use Rattle.rules.specs.Stations.{done}
 use Rattle.rules.specs.Frames.{Kept, keeps, Change, atOwn, putBack, changeRule, put, changed, stateRule}
 use Rattle.records.specs.declared.requests.RunMessage.the-variants.{Start, Sound, Rsp}
 use Rattle.records.proofs.PlaceLaws.{OwnAt}
-use Rattle.station.specs.declared.judge.OwnMessage.{OwnMessage}
-use Rattle.station.specs.declared.judge.OwnMessage.the-variants.{Run, Profile}
-use Rattle.station.specs.Judge.{ownMessageOf}
-use Rattle.station.specs.Frames.{ownRule, settled}
+use Rattle.receiving.specs.declared.judge.OwnMessage.{OwnMessage}
+use Rattle.receiving.specs.declared.judge.OwnMessage.the-variants.{Run, Profile}
+use Rattle.receiving.specs.Judge.{ownMessageOf}
+use Rattle.receiving.specs.AtRecord.{ownRule}
+use Rattle.station.specs.Frames.{settled}
 
 -- each message is a rule at the car's own record
 pub change-own : (c : CarAddress) (m : OwnMessage) (g : List ℕ) (a free : ℕ) (own : List Record) → changeRule c (ownMessageOf m g) a free own ≡ putBack (atOwn own (ownRule m g))

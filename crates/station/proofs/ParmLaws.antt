@@ -25,10 +25,10 @@ use Rattle.records.specs.declared.find.Found.{Found}
 use Rattle.records.specs.declared.find.Found.the-variants.{Own, Free, Nothing}
 use Rattle.records.specs.Places.{placeOf}
 use Rattle.records.proofs.PlaceLaws.{FoundAt, found}
-use Rattle.station.specs.declared.admission.Admission.{Admission}
-use Rattle.station.specs.declared.admission.Admission.the-variants.{At}
-use Rattle.station.specs.Frames.{admissionRule, admissionOf}
-use Rattle.station.proofs.JudgeLaws.{no-yes}
+use Rattle.receiving.specs.declared.admission.Admission.{Admission}
+use Rattle.receiving.specs.declared.admission.Admission.the-variants.{At}
+use Rattle.receiving.specs.AtRecord.{admissionRule, admissionOf}
+use Rattle.receiving.proofs.JudgeLaws.{no-yes}
 
 module _ (o : Configuration) (st : State) (rs : List Record) (c : CarAddress) (run : RunId) (a : ℕ) (e : st ≡ Matching a) where
   -- the record anew at place i, and PARM.CNF

@@ -1,18 +1,16 @@
 -- What the parts of the frame call need and give.
 use Prim.Native.Nat.{ℕ, _≤_}
 use mathlib.Core.Path.{_≡_}
-use mathlib.Core.Bool.{Bool, true}
-use mathlib.Core.List.{List, [], _∷_, map}
+use mathlib.Core.Bool.{true}
+use mathlib.Core.List.{List, map}
 use lib.ListN.{length, set}
 use Rattle.messages.specs.declared.CarAddress.{CarAddress}
 use Rattle.messages.specs.declared.RunId.{RunId}
-use Rattle.messages.specs.Answers.{numberOf}
 use Rattle.messages.specs.Octets.{splice}
-use Rattle.messages.specs.Reading.{Checked, no, yes, check}
+use Rattle.messages.specs.Reading.{Checked, no, yes}
 use Rattle.messages.specs.Table.{isUnicast, writtenSize, Message}
 use Rattle.messages.specs.Writing.{isAddressed, isLimited}
 use Rattle.rules.specs.declared.Indication.the-variants.{Nothing}
-use Rattle.rules.specs.declared.Record.{Record}
 use Rattle.rules.specs.declared.State.the-variants.{Joining}
 use Rattle.rules.specs.declared.Station.{Station}
 use Rattle.rules.specs.declared.Stepped.{Stepped}
@@ -21,16 +19,9 @@ use Rattle.rules.specs.Outcomes.{framesOf, joined, andThen}
 use Rattle.rules.specs.Stations.{Done, shared, inner, build, done, next, outcomeOf}
 use Rattle.rules.specs.Records.{mine, owned, freed}
 use Rattle.rules.specs.Replies.{framesTo}
-use Rattle.rules.specs.Frames.{Kept, profileRule, atRun, matchRule, confirmed}
+use Rattle.rules.specs.Frames.{Kept, matchRule, confirmed}
 use Rattle.rules.specs.Invariant.{GoodRecord, Invariant}
 use Rattle.rules.specs.Answers.{answerOf, summary}
-use Rattle.records.specs.declared.find.Found.{Found}
-use Rattle.records.specs.declared.find.Found.the-variants as found
-use Rattle.records.specs.Requests.{runRule}
-use Rattle.station.specs.declared.admission.Admission.{Admission}
-use Rattle.station.specs.declared.admission.Admission.the-variants as admission
-use Rattle.station.specs.declared.judge.OwnMessage.{OwnMessage}
-use Rattle.station.specs.declared.judge.OwnMessage.the-variants.{Run, Profile}
 
 -- a message that an output of n octets takes
 pub record Writable (m : Message) (n : ℕ) : Type 0 where
@@ -50,22 +41,6 @@ pub record Comes (s : Station) (x : Checked Done) (entry exit : List ℕ) (r : S
   pub station : r .station ≡ build (shared s) (next (inner s) x)
   pub answer : answerOf (r .answer) ≡ summary (outcomeOf x)
   pub octets : exit ≡ splice 0 (joined (framesOf (outcomeOf x))) entry
-
--- where PARM.REQ's record goes, with admission open or closed: "a car with a record restarts it, even after admission closed. Else 9, 10, or the first free record."
-abbrev pub admissionRule : Found → Bool → Checked ℕ
-admissionRule (found.Own i) isOpen = yes i
-admissionRule (found.Free i) isOpen = check isOpen 9 (yes i)
-admissionRule found.Nothing isOpen = check isOpen 9 (no 10)
-
--- what the code's answer says of it
-abbrev pub admissionOf : Admission → Checked ℕ
-admissionOf (admission.At i) = yes i
-admissionOf (admission.Refused x) = no (numberOf x)
-
--- START, SOUND, RSP or PROFILE at a record, with the group values g beside it
-abbrev pub ownRule : OwnMessage → List ℕ → Record → Checked Kept
-ownRule (Run run m) g r = atRun run (r ∷ []) (runRule m)
-ownRule Profile g r = profileRule g r (r .phase)
 
 -- the record that a message leaves is a good one, as car c's own
 abbrev pub KeepsGood : CarAddress → Checked Kept → Type 0

@@ -1,4 +1,3 @@
 pub mod Steps
-pub mod Judge
 pub mod Frames
 pub mod Reports

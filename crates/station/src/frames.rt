@@ -1,15 +1,15 @@
 // What a frame that the state takes does: by the request, at the car's record.
-use crate::admission;
-use crate::admission::Admission;
 use crate::answers;
 use crate::freeing;
-use crate::judge::OwnMessage;
-use crate::judge::Request;
-use crate::own_record;
 use crate::sending;
 use messages::CarAddress;
 use messages::Refusal;
 use messages::RunId;
+use receiving::admission;
+use receiving::admission::Admission;
+use receiving::judge::OwnMessage;
+use receiving::judge::Request;
+use receiving::own_record;
 use records::changes;
 use records::find::Found;
 use records::requests;
@@ -34,7 +34,7 @@ ghost use Rattle.rules.specs.Frames.{stateRule};
 ghost use Rattle.rules.specs.Replies.{parmCnf, framesTo};
 ghost use Rattle.rules.specs.Stations.{done};
 ghost use Rattle.records.specs.Requests.{effectOf};
-ghost use Rattle.station.specs.Judge.{requestOf, ownMessageOf};
+ghost use Rattle.receiving.specs.Judge.{requestOf, ownMessageOf};
 ghost use Rattle.station.specs.Frames.{Ready, Comes, KeepsGood, settled, joinRule};
 
 // The records with another one at place i.

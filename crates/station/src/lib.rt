@@ -1,19 +1,16 @@
 // A charging station's calls, by value: each gives the station afterwards and an answer.
-pub mod admission;
 mod all_records;
 mod answers;
 mod events;
 mod frames;
 mod freeing;
-pub mod judge;
-pub mod own_record;
-pub mod reply;
 mod reports;
 mod sending;
 mod ticks;
 
-use judge::Judged;
 use messages::Refusal;
+use receiving::judge;
+use receiving::judge::Judged;
 use rules::LEAST_OUTPUT;
 use rules::LONGEST_GAP;
 use rules::State;

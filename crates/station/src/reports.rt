@@ -1,5 +1,5 @@
 // A record's report, written.
-use crate::reply;
+use receiving::reply;
 use records::report;
 use rules::Configuration;
 use rules::Record;

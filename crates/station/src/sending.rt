@@ -1,11 +1,11 @@
 // The replies to a car, sent.
 use crate::answers;
-use crate::reply;
 use messages::CarAddress;
 use messages::GroupValues;
 use messages::Message;
 use messages::RunId;
 use messages::Written;
+use receiving::reply;
 use records::report;
 use rules::Indication;
 use rules::Record;

@@ -3,10 +3,10 @@ use Rattle.messages.specs.Reading.{Checked, groupsOf, readRules}
 use Rattle.rules.specs.Calls as calls
 use Rattle.rules.specs.Outcomes.{andThen}
 use Rattle.station.proofs.ComesLaws.{promised}
-use Rattle.station.proofs.JudgeLaws.{taken, frame-judged, judges}
+use Rattle.receiving.proofs.JudgeLaws.{taken, frame-judged, judges}
 use Rattle.station.proofs.StepLaws.{refuses}
-use Rattle.station.specs.Judge.{Asking, judgedOf}
-use Rattle.station.specs.declared.judge.Judged.{Judged}
+use Rattle.receiving.specs.Judge.{Asking, judgedOf}
+use Rattle.receiving.specs.declared.judge.Judged.{Judged}
 use borrow.Author.Needs.{needs}
 use lib.ListN.{length}
 use mathlib.Core.Path.{sym, ap, _∙_}

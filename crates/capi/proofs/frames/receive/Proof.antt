@@ -1,6 +1,6 @@
 -- By what judging gives: a refusal, or the car's request.
-use Rattle.station.specs.declared.judge.Judged.the-variants.{Taken}
-use Rattle.station.specs.declared.judge.Request.{Request}
+use Rattle.receiving.specs.declared.judge.Judged.the-variants.{Taken}
+use Rattle.receiving.specs.declared.judge.Request.{Request}
 use Rattle.capi.proofs.FrameLaws.{comes-refused, frame-lent, frame-ready}
 use mathlib.Core.Path.{refl, ap, _∙_}
 use borrow.Author.Needs.{needs}

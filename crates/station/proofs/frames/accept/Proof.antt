@@ -2,8 +2,8 @@
 use Rattle.messages.specs.Reading.{groupsOf, readRules}
 use Rattle.rules.specs.Frames.{stateRule}
 use Rattle.station.proofs.ComesLaws.{comes-as}
-use Rattle.station.specs.Judge.{requestOf}
-use Rattle.station.specs.declared.judge.Request.{Request}
+use Rattle.receiving.specs.Judge.{requestOf}
+use Rattle.receiving.specs.declared.judge.Request.{Request}
 use borrow.Author.Needs.{needs}
 use mathlib.Core.Path.{sym, ap}
 use Rattle.station.proofs.frames.accept.Statement.{statement}

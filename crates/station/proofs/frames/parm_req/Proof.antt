@@ -3,8 +3,8 @@ use Rattle.messages.specs.declared.Refusal.the-variants.{WrongState}
 use Rattle.rules.specs.Outcomes.{andThen}
 use Rattle.station.proofs.ComesLaws.{comes-as, comes-refused, state-other}
 use Rattle.station.proofs.ParmLaws.{admits, parm-answered, parm-inside}
-use Rattle.station.specs.Frames.{admissionOf}
-use Rattle.station.specs.declared.admission.Admission.{Admission}
+use Rattle.receiving.specs.AtRecord.{admissionOf}
+use Rattle.receiving.specs.declared.admission.Admission.{Admission}
 use mathlib.Core.Path.{sym, ap, _∙_}
 use borrow.Author.Needs.{needs}
 use Rattle.station.proofs.frames.parm_req.Statement.{statement}

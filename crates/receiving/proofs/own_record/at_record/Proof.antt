@@ -1,0 +1,32 @@
+-- `receiving::own_record::at_record` meets its contract, by the message.
+use Rattle.messages.specs.Reading.{groupsOf, readRules}
+use Rattle.records.proofs.RequestLaws.{as-rule}
+use Rattle.receiving.specs.AtRecord.{ownRule}
+use Rattle.receiving.specs.declared.judge.OwnMessage.{OwnMessage}
+use borrow.Author.Needs.{needs}
+use mathlib.Core.Path.{sym, ap}
+use Rattle.receiving.proofs.own_record.at_record.Statement.{statement}
+use Rattle.receiving.proofs.own_record.at_record.Tie as tie
+
+enum-known-message : tie.Need-enum-known-message
+enum-known-message c = search needs
+
+at-run-requires : tie.Need-at-run-requires
+at-run-requires c κs = search needs
+
+enum-told : tie.Need-enum-told
+enum-told c = search needs
+
+profile-requires : tie.Need-profile-requires
+profile-requires c κs = search needs
+
+returns : tie.Need-returns
+returns c = let a = c .before .before .before .before .before .args in as-rule (a .r) _ _ _ (sym (ap (λ (m : OwnMessage). ownRule m (groupsOf (readRules (a .octets .now))) (a .r)) (c .before .before .message .given .1))) (c .at-run .ensures)
+
+returns-2 : tie.Need-returns-2
+returns-2 c = let a = c .before .before .before .before .args in as-rule (a .r) _ _ _ (sym (ap (λ (m : OwnMessage). ownRule m (groupsOf (readRules (a .octets .now))) (a .r)) (c .before .enum-told .given .1))) (c .profile .ensures)
+
+pub at-record-spec : {M : Type 1} → statement M
+at-record-spec =
+    tie.close
+    (tie.spec enum-known-message at-run-requires enum-told profile-requires returns returns-2)

@@ -1,0 +1,94 @@
+-- What is decided of a frame before a record is looked at.
+use Prim.Native.Nat.{ℕ}
+use mathlib.Core.Bool.{Bool, true, false}
+use mathlib.Core.List.{List}
+use Rattle.messages.specs.declared.CarAddress.{CarAddress}
+use Rattle.messages.specs.declared.ReadAnswer.{ReadAnswer}
+use Rattle.messages.specs.declared.ReadAnswer.the-variants as readAnswer
+use Rattle.messages.specs.declared.Refusal.{Refusal}
+use Rattle.messages.specs.declared.Refusal.the-variants.{TooShort, NotForUs}
+use Rattle.messages.specs.Answers.{numberOf}
+use Rattle.messages.specs.Reading.{Checked, no, yes, check}
+use Rattle.messages.specs.Table.{Message}
+use Rattle.rules.specs.declared.Configuration.{Configuration}
+use Rattle.rules.specs.declared.State.{State}
+use Rattle.rules.specs.declared.State.the-variants.{Unmatched, Matching, Joining, Matched}
+use Rattle.rules.specs.Outcomes.{andThen}
+use Rattle.rules.specs.Received.{RecordMessage, parmReq, start, sound, profile, rsp, Request, forRecord, matchReq, Received, receivedIn, received, isForUs}
+use Rattle.rules.specs.Frames.{admitted}
+use Rattle.records.specs.declared.requests.RunMessage.the-variants.{Start, Sound, Rsp}
+use Rattle.receiving.specs.declared.judge.Judged.{Judged}
+use Rattle.receiving.specs.declared.judge.Judged.the-variants as judged
+use Rattle.receiving.specs.declared.judge.OwnMessage.{OwnMessage}
+use Rattle.receiving.specs.declared.judge.OwnMessage.the-variants.{Run, Profile}
+use Rattle.receiving.specs.declared.judge.Request as code
+use Rattle.receiving.specs.declared.judge.Request.the-variants.{Parm, Own, Match}
+
+-- a request, and the car that asks
+pub record Asking : Type 0 where
+  pub car : CarAddress
+  pub request : Request
+
+-- what was received, without the frame's addresses
+abbrev pub asking : Received → Asking
+asking y = record { car = y .car; request = y .request }
+
+-- ---- the rule
+
+-- MATCH.REQ
+abbrev pub isMatch : Request → Bool
+isMatch (forRecord m) = false
+isMatch (matchReq run) = true
+
+-- "Matching takes all; Joining takes MATCH.REQ only"
+abbrev pub takes : State → Request → Bool
+takes Unmatched m = false
+takes (Matching a) m = true
+takes (Joining l c run) m = isMatch m
+takes Matched m = false
+
+-- 8
+abbrev pub stateJudged : State → Checked Asking → Checked Asking
+stateJudged st x = andThen x (λ (y : Asking). check (takes st (y .request)) 8 (yes y))
+
+-- 7
+abbrev pub forUsRule : Configuration → Checked Received → Checked Asking
+forUsRule o x = andThen x (λ (y : Received). check (isForUs o y) 7 (yes (asking y)))
+
+-- of a message: 17, then 7
+abbrev pub addressedRule : Configuration → Message → Checked Asking
+addressedRule o m = forUsRule o (receivedIn (yes m))
+
+-- "16, 15, reading, 17, 7, 8", or the request
+unfoldable pub judgeRule : Configuration → State → ℕ → List ℕ → Checked Asking
+judgeRule o st room s = stateJudged st (andThen (admitted o room (received s)) (λ (y : Received). yes (asking y)))
+
+-- ---- what the code's answers say
+
+-- a message at the car's own record, with the group values g beside it
+abbrev pub ownMessageOf : OwnMessage → List ℕ → RecordMessage
+ownMessageOf (Run run Start) g = start run
+ownMessageOf (Run run (Sound k)) g = sound run k
+ownMessageOf (Run run Rsp) g = rsp run
+ownMessageOf Profile g = profile g
+
+-- a request, with the group values g beside it
+abbrev pub requestOf : code.Request → List ℕ → Request
+requestOf (Parm run) g = forRecord (parmReq run)
+requestOf (Own m) g = forRecord (ownMessageOf m g)
+requestOf (Match run) g = matchReq run
+
+-- what judging answered, with the group values g beside it
+abbrev pub judgedOf : Judged → List ℕ → Checked Asking
+judgedOf (judged.Refused x) g = no (numberOf x)
+judgedOf (judged.Taken c m) g = yes (record { car = c; request = requestOf m g })
+
+-- the refusal of an answer that is one
+abbrev pub refusalIn : ReadAnswer → Refusal
+refusalIn (readAnswer.Refused x) = x
+refusalIn (readAnswer.Read m) = TooShort
+
+-- a car's request where it is for us, else 7
+unfoldable pub forUs : Bool → CarAddress → code.Request → Judged
+forUs true c m = judged.Taken c m
+forUs false c m = judged.Refused NotForUs

@@ -1,0 +1,169 @@
+// What is decided of a frame before a record is looked at: 16, 15, reading, 17, 7, 8.
+use messages::CarAddress;
+use messages::Message;
+use messages::ReadAnswer;
+use messages::Refusal;
+use messages::RunId;
+use records::requests::RunMessage;
+use rules::Configuration;
+use rules::LEAST_OUTPUT;
+use rules::State;
+ghost use Prim.Native.Nat.{ℕ};
+ghost use mathlib.Core.Path.{_≡_};
+ghost use mathlib.Core.Bool.{_&&_};
+ghost use mathlib.Core.List.{List};
+ghost use Rattle.messages.specs.Answers.{messageOf};
+ghost use Rattle.messages.specs.Reading.{groupsOf, readRules};
+ghost use Rattle.rules.specs.Received.{notUs};
+ghost use Rattle.receiving.specs.Judge as rule;
+ghost use Rattle.receiving.specs.Judge.{requestOf, refusalIn, judgedOf, forUs, addressedRule, stateJudged, judgeRule};
+
+// What concerns a record that the car has: START, SOUND or RSP of a run, or PROFILE, whose group values stand in the frame.
+pub enum OwnMessage {
+    Run { run: RunId, message: RunMessage },
+    Profile,
+}
+
+// What a car's frame asks for: PARM.REQ, a change of its own record, or MATCH.REQ.
+pub enum Request {
+    Parm(RunId),
+    Own(OwnMessage),
+    Match(RunId),
+}
+
+// A refusal, or a car's request that the state takes.
+pub enum Judged {
+    Refused(Refusal),
+    Taken { car: CarAddress, request: Request },
+}
+
+// The refusal of an answer that is one.
+fn refusal_in(answer: ReadAnswer) -> Refusal
+    ensures { λ x. ⌜ x ≡ refusalIn answer ⌝ }
+{
+    match answer {
+        ReadAnswer::Refused(refusal) => refusal,
+        ReadAnswer::Read(_) => Refusal::TooShort,
+    }
+}
+
+// 7, where a frame does not go to us, or its car is us or our modem.
+fn for_us(config: Configuration, ours: bool, car: CarAddress, request: Request) -> Judged
+    ensures { λ j. ⌜ j ≡ forUs (ours && notUs config car) car request ⌝ }
+{
+    let us = config.address;
+    let modem = config.modem;
+    if ours & (!(car.0 == us.0) & !(car.0 == modem.0)) {
+        Judged::Taken {
+            car: car,
+            request: request,
+        }
+    } else {
+        Judged::Refused(Refusal::NotForUs)
+    }
+}
+
+// START, SOUND or RSP of a run.
+fn of_run(run: RunId, message: RunMessage) -> Request
+    ensures { λ q. ⌜ q ≡ Request.Own (OwnMessage.Run run message) ⌝ }
+{
+    Request::Own(OwnMessage::Run {
+        run: run,
+        message: message,
+    })
+}
+
+// By the message: 17 where only a car receives it, then 7.
+fn addressed(config: Configuration, message: Message) -> Judged
+    ensures { λ j. ⌜ ((g : List ℕ) → judgedOf j g ≡ addressedRule config (messageOf message g)) ⌝ }
+{
+    let us = config.address;
+    let modem = config.modem;
+    match message {
+        Message::SlacParmReq { car, run } => for_us(config, true, car, Request::Parm(run)),
+        Message::StartAttenCharInd { car, run } => {
+            for_us(config, true, car, of_run(run, RunMessage::Start))
+        }
+        Message::MnbcSoundInd {
+            car,
+            count,
+            run,
+            random: _,
+        } => for_us(config, true, car, of_run(run, RunMessage::Sound(count))),
+        Message::AttenCharRsp { car, station, run } => {
+            let ours = station.0 == us.0;
+            for_us(config, ours, car, of_run(run, RunMessage::Rsp))
+        }
+        Message::SlacMatchReq { car, station, run } => {
+            for_us(config, station.0 == us.0, car, Request::Match(run))
+        }
+        Message::AttenProfileInd {
+            modem: source,
+            station,
+            car,
+        } => {
+            let ours = (station.0 == us.0) & (source.0 == modem.0);
+            for_us(config, ours, car, Request::Own(OwnMessage::Profile))
+        }
+        _ => Judged::Refused(Refusal::OnlyForCars),
+    }
+}
+
+// Whether a request is MATCH.REQ.
+fn is_match(request: Request) -> bool
+    ensures { λ b. ⌜ ((g : List ℕ) → b ≡ rule.isMatch (requestOf request g)) ⌝ }
+{
+    match request {
+        Request::Match(_) => true,
+        Request::Parm(_) => false,
+        Request::Own(_) => false,
+    }
+}
+
+// Whether the state takes a request: Matching takes all, Joining MATCH.REQ only.
+fn takes(state: State, request: Request) -> bool
+    ensures { λ b. ⌜ ((g : List ℕ) → b ≡ rule.takes state (requestOf request g)) ⌝ }
+{
+    match state {
+        State::Matching(_) => true,
+        State::Joining {
+            left: _,
+            car: _,
+            run: _,
+        } => is_match(request),
+        State::Unmatched => false,
+        State::Matched => false,
+    }
+}
+
+// 8, where the state does not take the request.
+fn in_state(state: State, judged: Judged) -> Judged
+    ensures { λ j. ⌜ ((g : List ℕ) → judgedOf j g ≡ stateJudged state (judgedOf judged g)) ⌝ }
+{
+    let Judged::Taken { car: _, request } = judged else {
+        return judged;
+    };
+    if takes(state, request) {
+        judged
+    } else {
+        Judged::Refused(Refusal::WrongState)
+    }
+}
+
+// All that needs no record, in its order.
+pub fn judge(config: Configuration, state: State, octets: &[u8], room: usize) -> Judged
+    ensures { λ j. ⌜ judgedOf j (groupsOf (readRules (now (octets .entry)))) ≡ judgeRule config state room (now (octets .entry)) ⌝ }
+{
+    let good = config.good;
+    if !good {
+        return Judged::Refused(Refusal::BadConfiguration);
+    }
+    if room < LEAST_OUTPUT {
+        return Judged::Refused(Refusal::OutputTooShort);
+    }
+    let answer = messages::read(octets);
+    let ReadAnswer::Read(message) = answer else {
+        return Judged::Refused(refusal_in(answer));
+    };
+    in_state(state, addressed(config, message))
+}

@@ -1,0 +1,6 @@
+// A received frame, as far as no whole station is needed: what is decided of it before a record is looked at, where its record
+// goes, what it does at one record, and the messages of the replies.
+pub mod admission;
+pub mod judge;
+pub mod own_record;
+pub mod reply;
