@@ -19,6 +19,7 @@ find_library() {
     if [ -z "${LAHZAVAR_LIB_DIR:-}" ]; then
         local made=target/staticlib/libcapi.a
         if [ ! -f "$made" ] || [ -n "$(find crates crates.txt -type f -not -path '*/must-fail/*' -newer "$made" -print -quit)" ]; then
+            quietly rt check words station # side by side, where the next command takes them one by one
             quietly rt staticlib capi
         fi
         LAHZAVAR_LIB_DIR=target/staticlib
