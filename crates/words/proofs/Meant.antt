@@ -1,7 +1,7 @@
 -- Any words and sums mean a station that every call can take.
 use Prim.Native.Nat.{ℕ, zero, suc, _*_, _^_, _≤_, _%_}
 use mathlib.Core.Path.{_≡_, refl, sym, subst}
-use mathlib.Core.List.{List, [], _∷_}
+use mathlib.Core.List.{List, [], _∷_, zipWith}
 use native.Mathlib.Omega.{arith}
 use lib.Dec.{eqb}
 use lib.ListN.{length, getD, drop, length-take, length-map}
@@ -16,7 +16,7 @@ use Rattle.rules.specs.Records.{isHeld}
 use Rattle.rules.specs.Rules.{isGood, freeRecord, configured}
 use Rattle.rules.proofs.InvariantKept.{configured-keeps}
 use Rattle.rules.proofs.Logic.{split}
-use Rattle.words.specs.Words.{headCount, width, runs, both, phaseOf, profilesOf, sumsOf, recordOf, recordsOf, configOf, stateOf, stationOf}
+use Rattle.words.specs.Words.{headCount, width, runs, phaseOf, profilesOf, sumsOf, recordOf, recordsOf, configOf, stateOf, stationOf}
 use Rattle.rules.specs.Numbers.{pilotOf}
 
 -- ---- a record
@@ -47,15 +47,15 @@ record-meant w s = record {
   car = λ h. and-right (eqb (getD w 0 0) 1) (isUnicast (getD w 1 0)) h;
 }
 
-all-both : (xs ys : List (List ℕ)) → All GoodRecord (both recordOf xs ys)
-unfolding both
-all-both [] ys = tt
-all-both (x ∷ xs) [] = tt
-all-both (x ∷ xs) (y ∷ ys) = (record-meant x y, all-both xs ys)
+all-zip : (xs ys : List (List ℕ)) → All GoodRecord (zipWith recordOf xs ys)
+unfolding zipWith
+all-zip [] ys = tt
+all-zip (x ∷ xs) [] = tt
+all-zip (x ∷ xs) (y ∷ ys) = (record-meant x y, all-zip xs ys)
 
 pub records-meant : (w s : List ℕ) → All GoodRecord (recordsOf w s)
 unfolding recordsOf
-records-meant w s = all-both (runs recordCount width (drop headCount w)) (runs recordCount groupCount s)
+records-meant w s = all-zip (runs recordCount width (drop headCount w)) (runs recordCount groupCount s)
 
 -- ---- the configuration and the station
 
@@ -108,13 +108,13 @@ unfolding runs
 all-few zero k l = tt
 all-few (suc n) k l = (omega (arith, length-take k l), all-few n k (drop k l))
 
-both-few : (k : ℕ) (xs ys : List (List ℕ)) → All (λ (y : List ℕ). length y ≤ k) ys → All (λ (r : Record). length (r .sums) ≤ k) (both recordOf xs ys)
-unfolding both recordOf sumsOf
-both-few k [] ys h = tt
-both-few k (x ∷ xs) [] h = tt
-both-few k (x ∷ xs) (y ∷ ys) h = (rw length-map (h .0), both-few k xs ys (h .1))
+zip-few : (k : ℕ) (xs ys : List (List ℕ)) → All (λ (y : List ℕ). length y ≤ k) ys → All (λ (r : Record). length (r .sums) ≤ k) (zipWith recordOf xs ys)
+unfolding zipWith recordOf sumsOf
+zip-few k [] ys h = tt
+zip-few k (x ∷ xs) [] h = tt
+zip-few k (x ∷ xs) (y ∷ ys) h = (rw length-map (h .0), zip-few k xs ys (h .1))
 
 -- each record has a sum for each group at most
 pub sums-few : (w s : List ℕ) → All (λ (r : Record). length (r .sums) ≤ groupCount) (recordsOf w s)
 unfolding recordsOf
-sums-few w s = both-few groupCount (runs recordCount width (drop headCount w)) (runs recordCount groupCount s) (all-few recordCount groupCount s)
+sums-few w s = zip-few groupCount (runs recordCount width (drop headCount w)) (runs recordCount groupCount s) (all-few recordCount groupCount s)

@@ -2,7 +2,7 @@
 use Prim.Native.Nat.{ℕ, suc, _+_, _*_, _^_, _≤_, _<_, _%_, min}
 use mathlib.Core.Path.{_≡_, refl, sym, ap, ap₂, _∙_}
 use mathlib.Core.Bool.{Bool, true, false, _&&_}
-use mathlib.Core.List.{List, [], _∷_}
+use mathlib.Core.List.{List, [], _∷_, zipWith}
 use native.Mathlib.Omega.{arith}
 use native.Mathlib.Nat.{add-zero}
 use lib.Dec.{eqb}
@@ -17,10 +17,10 @@ use Rattle.rules.specs.declared.Record.{Record}
 use Rattle.rules.specs.Constants.{soundCount, recordCount}
 use Rattle.rules.specs.Invariant.{InPhase, GoodRecord}
 use Rattle.rules.specs.Records.{isHeld}
-use Rattle.words.specs.Words.{headCount, width, wordCount, sumCount, runs, both, phaseOf, profilesOf, mostSum, sumsOf, recordOf, recordsOf}
+use Rattle.words.specs.Words.{headCount, width, wordCount, sumCount, runs, phaseOf, profilesOf, mostSum, sumsOf, recordOf, recordsOf}
 use Rattle.words.specs.Written.{flagOf, phaseNumber, phaseRetries, wordsOf}
-use Rattle.records.specs.Timers as timers
-use Rattle.words.proofs.RunLaws.{drop-sets, length-runs, runs-at, runs-sets, length-both, both-set, both-at}
+use Rattle.records.specs.Timers.{timeOf}
+use Rattle.words.proofs.RunLaws.{drop-sets, length-runs, runs-at, runs-sets, length-zip, zip-set, zip-at}
 
 -- where the words of the record at a place begin
 abbrev pub place : ℕ → ℕ
@@ -31,14 +31,14 @@ place i = headCount + width * i
 module _ (w s : List ℕ) where
   pub length-records : length (recordsOf w s) ≡ recordCount
   unfolding recordsOf
-  length-records = length-both recordOf (runs recordCount width (drop headCount w)) (runs recordCount groupCount s) recordCount
+  length-records = length-zip recordOf (runs recordCount width (drop headCount w)) (runs recordCount groupCount s) recordCount
       (length-runs recordCount width (drop headCount w)) (length-runs recordCount groupCount s)
 
   -- the record at a place is that of its words and its sums
   pub record-at : (i : ℕ) (d : Record) → i < recordCount → getD (recordsOf w s) i d ≡ recordOf (part w (place i) width) (part s (groupCount * i) groupCount)
   unfolding recordsOf
   record-at i d h =
-      both-at recordOf (runs recordCount width (drop headCount w)) (runs recordCount groupCount s) i [] [] d
+      zip-at recordOf (runs recordCount width (drop headCount w)) (runs recordCount groupCount s) i [] [] d
       (rw (length-runs recordCount width (drop headCount w)) h) (length-runs recordCount width (drop headCount w) ∙ sym (length-runs recordCount groupCount s))
       ∙ ap₂ recordOf (runs-at recordCount width i (drop headCount w) [] h ∙ ap (take width) (drop-drop (width * i) headCount w)) (runs-at recordCount groupCount i s [] h)
 
@@ -47,10 +47,10 @@ module _ (w s : List ℕ) where
       → recordsOf (sets w (place i) v) (sets s (groupCount * i) t) ≡ set (recordsOf w s) i (recordOf v t)
   unfolding recordsOf
   record-put v t i h lw ls lv lt =
-      ap₂ (both recordOf)
+      ap₂ (zipWith recordOf)
       (ap (runs recordCount width) (drop-sets v w headCount (width * i)) ∙ runs-sets recordCount width i (drop headCount w) v lv (rw length-drop (omega arith)))
       (runs-sets recordCount groupCount i s t lt (omega arith))
-      ∙ both-set recordOf (runs recordCount width (drop headCount w)) (runs recordCount groupCount s) i v t
+      ∙ zip-set recordOf (runs recordCount width (drop headCount w)) (runs recordCount groupCount s) i v t
 
 -- a word of a record
 word-at : (w : List ℕ) (at j : ℕ) → j < width → getD (part w at width) j 0 ≡ getD w (at + j) 0
@@ -76,7 +76,7 @@ pub flag-and : (b t : Bool) → (b ≡ true → t ≡ true) → eqb (flagOf b) 1
 flag-and true t h = h refl
 flag-and false t h = refl
 
-phase-back : (p : Phase) (n : ℕ) → InPhase p n → phaseOf (phaseNumber p) (timers.timeOf p) (phaseRetries p) ≡ p
+phase-back : (p : Phase) (n : ℕ) → InPhase p n → phaseOf (phaseNumber p) (timeOf p) (phaseRetries p) ≡ p
 unfolding phaseOf
 phase-back (Asked t) n h = ap Asked (omega arith)
 phase-back (Sounding t) n h = ap Sounding (omega arith)
@@ -101,10 +101,10 @@ sums-back n (x ∷ s) h =
 pub record-back : (r : Record) → GoodRecord r → recordOf (wordsOf r) (r .sums) ≡ r
 unfolding recordOf wordsOf isHeld
 record-back r g =
-    let p : phaseOf (phaseNumber (r .phase)) (timers.timeOf (r .phase)) (phaseRetries (r .phase)) ≡ r .phase = phase-back (r .phase) (r .profiles) (g .phase) in
-    let n : profilesOf (phaseOf (phaseNumber (r .phase)) (timers.timeOf (r .phase)) (phaseRetries (r .phase))) (r .profiles) ≡ r .profiles =
+    let p : phaseOf (phaseNumber (r .phase)) (timeOf (r .phase)) (phaseRetries (r .phase)) ≡ r .phase = phase-back (r .phase) (r .profiles) (g .phase) in
+    let n : profilesOf (phaseOf (phaseNumber (r .phase)) (timeOf (r .phase)) (phaseRetries (r .phase))) (r .profiles) ≡ r .profiles =
     ap (λ (q : Phase). profilesOf q (r .profiles)) p ∙ profiles-back (r .phase) (r .profiles) (g .phase) in
-    let m : sumsOf (profilesOf (phaseOf (phaseNumber (r .phase)) (timers.timeOf (r .phase)) (phaseRetries (r .phase))) (r .profiles)) (r .sums) ≡ r .sums =
+    let m : sumsOf (profilesOf (phaseOf (phaseNumber (r .phase)) (timeOf (r .phase)) (phaseRetries (r .phase))) (r .profiles)) (r .sums) ≡ r .sums =
     ap (λ (k : ℕ). sumsOf k (r .sums)) n ∙ sums-back (r .profiles) (r .sums) (g .sums) in
     let b : eqb (flagOf (r .held)) 1 && isUnicast (r .car .0) ≡ r .held = flag-and (r .held) (isUnicast (r .car .0)) (g .car) in
     let e : r .heard % 2 ^ soundCount ≡ r .heard = omega (arith, g .heard) in

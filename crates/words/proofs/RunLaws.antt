@@ -1,12 +1,12 @@
 -- Runs of elements side by side: one read, and one stored, once for every width and every number of runs.
 use Prim.Native.Nat.{ℕ, zero, suc, _+_, _*_, _≤_, _<_}
 use mathlib.Core.Path.{_≡_, refl, sym, ap, ap₂, _∙_}
-use mathlib.Core.List.{List, [], _∷_, _++_}
+use mathlib.Core.List.{List, [], _∷_, _++_, zipWith}
 use native.Mathlib.Omega.{arith}
 use native.Mathlib.Nat.{add-zero, add-suc, mul-zero, mul-suc, add-comm}
 use lib.ListN.{length, getD, take, drop, set, length-drop, List·getD-append}
 use lib.Seq.{sets, sets-eq, take-at, drop-at, take-set-le, drop-set-add, drop-drop, getD-set-other}
-use Rattle.words.specs.Words.{runs, both}
+use Rattle.words.specs.Words.{runs}
 
 module _ {A : Type 0} where
   -- ---- a run of stores
@@ -66,24 +66,24 @@ module _ {A : Type 0} where
       (ap (runs n k) (drop-sets vs l k (k * i)) ∙ runs-sets n k i (drop k l) vs e (rw length-drop (omega arith))))
 
 module _ {A B C : Type 0} (f : A → B → C) where
-  pub length-both : (xs : List A) (ys : List B) (n : ℕ) → length xs ≡ n → length ys ≡ n → length (both f xs ys) ≡ n
-  unfolding both
-  length-both [] ys n h k = h
-  length-both (x ∷ xs) [] n h k = k
-  length-both (x ∷ xs) (y ∷ ys) zero h k = absurd (omega arith)
-  length-both (x ∷ xs) (y ∷ ys) (suc n) h k = ap suc (length-both xs ys n (omega arith) (omega arith))
+  pub length-zip : (xs : List A) (ys : List B) (n : ℕ) → length xs ≡ n → length ys ≡ n → length (zipWith f xs ys) ≡ n
+  unfolding zipWith
+  length-zip [] ys n h k = h
+  length-zip (x ∷ xs) [] n h k = k
+  length-zip (x ∷ xs) (y ∷ ys) zero h k = absurd (omega arith)
+  length-zip (x ∷ xs) (y ∷ ys) (suc n) h k = ap suc (length-zip xs ys n (omega arith) (omega arith))
 
-  pub both-set : (xs : List A) (ys : List B) (i : ℕ) (x : A) (y : B) → both f (set xs i x) (set ys i y) ≡ set (both f xs ys) i (f x y)
-  unfolding both
-  both-set [] ys i x y = refl
-  both-set (a ∷ xs) [] zero x y = refl
-  both-set (a ∷ xs) [] (suc i) x y = refl
-  both-set (a ∷ xs) (b ∷ ys) zero x y = refl
-  both-set (a ∷ xs) (b ∷ ys) (suc i) x y = ap (λ (l : List C). f a b ∷ l) (both-set xs ys i x y)
+  pub zip-set : (xs : List A) (ys : List B) (i : ℕ) (x : A) (y : B) → zipWith f (set xs i x) (set ys i y) ≡ set (zipWith f xs ys) i (f x y)
+  unfolding zipWith
+  zip-set [] ys i x y = refl
+  zip-set (a ∷ xs) [] zero x y = refl
+  zip-set (a ∷ xs) [] (suc i) x y = refl
+  zip-set (a ∷ xs) (b ∷ ys) zero x y = refl
+  zip-set (a ∷ xs) (b ∷ ys) (suc i) x y = ap (λ (l : List C). f a b ∷ l) (zip-set xs ys i x y)
 
-  pub both-at : (xs : List A) (ys : List B) (i : ℕ) (a : A) (b : B) (d : C) → i < length xs → length xs ≡ length ys → getD (both f xs ys) i d ≡ f (getD xs i a) (getD ys i b)
-  unfolding both
-  both-at [] ys i a b d h e = absurd (omega arith)
-  both-at (x ∷ xs) [] i a b d h e = absurd (omega arith)
-  both-at (x ∷ xs) (y ∷ ys) zero a b d h e = refl
-  both-at (x ∷ xs) (y ∷ ys) (suc i) a b d h e = both-at xs ys i a b d (omega arith) (omega arith)
+  pub zip-at : (xs : List A) (ys : List B) (i : ℕ) (a : A) (b : B) (d : C) → i < length xs → length xs ≡ length ys → getD (zipWith f xs ys) i d ≡ f (getD xs i a) (getD ys i b)
+  unfolding zipWith
+  zip-at [] ys i a b d h e = absurd (omega arith)
+  zip-at (x ∷ xs) [] i a b d h e = absurd (omega arith)
+  zip-at (x ∷ xs) (y ∷ ys) zero a b d h e = refl
+  zip-at (x ∷ xs) (y ∷ ys) (suc i) a b d h e = zip-at xs ys i a b d (omega arith) (omega arith)

@@ -1,7 +1,7 @@
 -- A station as words and sums: what any two lists of numbers mean.
 use Prim.Native.Nat.{ℕ, zero, suc, _+_, _*_, _-_, _^_, _%_, min, max}
 use mathlib.Core.Bool.{cond, _&&_}
-use mathlib.Core.List.{List, [], _∷_, map}
+use mathlib.Core.List.{List, [], _∷_, map, zipWith}
 use lib.Dec.{eqb}
 use lib.ListN.{length, getD, take, drop}
 use Rattle.messages.specs.Table.{groupCount, isUnicast}
@@ -43,26 +43,19 @@ module _ {A : Type 0} where
   runs zero k l = []
   runs (suc n) k l = take k l ∷ runs n k (drop k l)
 
-module _ {A B C : Type 0} where
-  -- what each element gives with the one beside it
-  unfoldable pub both : (A → B → C) → List A → List B → List C
-  both f [] ys = []
-  both f (x ∷ xs) [] = []
-  both f (x ∷ xs) (y ∷ ys) = f x y ∷ both f xs ys
-
 -- ---- a record
 
 -- a phase's time left: from 1 to its start value
-abbrev pub timeOf : ℕ → ℕ → ℕ
-timeOf start n = min start (max 1 n)
+abbrev pub timeWithin : ℕ → ℕ → ℕ
+timeWithin start n = min start (max 1 n)
 
 -- a phase by its number, with its time and its retries
 unfoldable pub phaseOf : ℕ → ℕ → ℕ → Phase
 phaseOf k t n =
-    cond (eqb k 0) (Asked (timeOf askedTime t))
-    (cond (eqb k 1) (Sounding (timeOf soundingTime t))
-    (cond (eqb k 2) (Reported (timeOf reportedTime t) (min retryCount n))
-    (Awaiting (timeOf awaitingTime t))))
+    cond (eqb k 0) (Asked (timeWithin askedTime t))
+    (cond (eqb k 1) (Sounding (timeWithin soundingTime t))
+    (cond (eqb k 2) (Reported (timeWithin reportedTime t) (min retryCount n))
+    (Awaiting (timeWithin awaitingTime t))))
 
 -- the profiles counted: as many as the phase allows
 unfoldable pub profilesOf : Phase → ℕ → ℕ
@@ -96,7 +89,7 @@ recordOf w s =
 
 -- the records, behind the head
 unfoldable pub recordsOf : List ℕ → List ℕ → List Record
-recordsOf w s = both recordOf (runs recordCount width (drop headCount w)) (runs recordCount groupCount s)
+recordsOf w s = zipWith recordOf (runs recordCount width (drop headCount w)) (runs recordCount groupCount s)
 
 -- how many records are held
 abbrev pub heldCount : List Record → ℕ

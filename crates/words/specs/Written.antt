@@ -10,7 +10,7 @@ use Rattle.rules.specs.declared.Pilot.the-variants.{A, B, C, D, E, F}
 use Rattle.rules.specs.declared.Record.{Record}
 use Rattle.rules.specs.declared.State.{State}
 use Rattle.rules.specs.declared.State.the-variants.{Unmatched, Matching, Joining, Matched}
-use Rattle.records.specs.Timers as timers
+use Rattle.records.specs.Timers.{timeOf}
 
 -- 1 for what is so, 0 for what is not
 abbrev pub flagOf : Bool → ℕ
@@ -33,7 +33,7 @@ phaseRetries (Awaiting t) = 0
 
 -- a record's words
 unfoldable pub wordsOf : Record → List ℕ
-wordsOf r = flagOf (r .held) ∷ r .car .0 ∷ r .run .0 ∷ phaseNumber (r .phase) ∷ timers.timeOf (r .phase) ∷ phaseRetries (r .phase) ∷ r .heard ∷ r .profiles ∷ []
+wordsOf r = flagOf (r .held) ∷ r .car .0 ∷ r .run .0 ∷ phaseNumber (r .phase) ∷ timeOf (r .phase) ∷ phaseRetries (r .phase) ∷ r .heard ∷ r .profiles ∷ []
 
 -- the number of a state
 abbrev pub stateNumber : State → ℕ

@@ -13,7 +13,7 @@ use rules::State;
 ghost use mathlib.Core.Path.{_≡_};
 ghost use Prim.Native.Nat.{_*_, _^_, _%_, _<_, min, max};
 ghost use Rattle.rules.specs.Constants.{soundCount};
-ghost use Rattle.words.specs.Words.{timeOf, phaseOf, profilesOf, mostSum, stateBy};
+ghost use Rattle.words.specs.Words.{timeWithin, phaseOf, profilesOf, mostSum, stateBy};
 ghost use Rattle.words.specs.Written.{flagOf, phaseNumber, phaseRetries, stateTime, stateCar, stateRun, pilotNumber};
 
 // How many sets of sound counts there are: two to the number of sounds.
@@ -70,7 +70,7 @@ pub(crate) fn most_sum(profiles: u8) -> u16
 
 // A phase's time left.
 fn time(start: u32, word: u64) -> u32
-    ensures { λ r. ⌜ r ≡ timeOf start word ⌝ }
+    ensures { λ r. ⌜ r ≡ timeWithin start word ⌝ }
 {
     at_most(start, positive(word))
 }
