@@ -46,25 +46,28 @@ static void plug_in_again(void)
     (void)lahzavar_station_pilot(&station, LAHZAVAR_PILOT_B, 0);
 }
 
-/* The length in front of a frame of the input. */
-static size_t length_at(size_t at)
+/* The next frame of the input from `at`, or NULL at its end; plugs in again where our car's matching ends. */
+static inline const uint8_t *next_frame(size_t *at, size_t *length)
 {
-    return (size_t)input[at] | (size_t)input[at + 1] << 8;
+    while (*at + 2 <= input_length) {
+        const uint8_t *frame = input + *at + 2;
+        *length = (size_t)frame[-2] | (size_t)frame[-1] << 8;
+        *at += 2 + *length;
+        if (*length != 0) {
+            return frame;
+        }
+        plug_in_again();
+    }
+    return NULL;
 }
 
 /* All frames, and nothing else that takes time. */
 void run_frames(void)
 {
-    size_t at = 0;
-    while (at + 2 <= input_length) {
-        size_t length = length_at(at);
-        at += 2;
-        if (length == 0) {
-            plug_in_again();
-        } else {
-            (void)lahzavar_station_frame(&station, input + at, length, out, sizeof out);
-        }
-        at += length;
+    const uint8_t *frame;
+    size_t at = 0, length;
+    while ((frame = next_frame(&at, &length)) != NULL) {
+        (void)lahzavar_station_frame(&station, frame, length, out, sizeof out);
     }
 }
 
@@ -77,21 +80,15 @@ static uint64_t mixed(uint64_t sum, uint64_t value)
 static void check(void)
 {
     uint64_t sum = 0xCBF29CE484222325u;
-    size_t at = 0, octet, number;
-    while (at + 2 <= input_length) {
-        size_t length = length_at(at);
-        at += 2;
-        if (length == 0) {
-            plug_in_again();
-        } else {
-            struct lahzavar_answer answer = lahzavar_station_frame(&station, input + at, length, out, sizeof out);
-            refusals[answer.refusal]++;
-            sum = mixed(mixed(sum, answer.refusal), answer.octets);
-            for (octet = 0; octet < answer.octets; octet++) {
-                sum = mixed(sum, out[octet]);
-            }
+    const uint8_t *frame;
+    size_t at = 0, length, octet, number;
+    while ((frame = next_frame(&at, &length)) != NULL) {
+        struct lahzavar_answer answer = lahzavar_station_frame(&station, frame, length, out, sizeof out);
+        refusals[answer.refusal]++;
+        sum = mixed(mixed(sum, answer.refusal), answer.octets);
+        for (octet = 0; octet < answer.octets; octet++) {
+            sum = mixed(sum, out[octet]);
         }
-        at += length;
     }
     printf("sum %016llx\n", (unsigned long long)sum);
     for (number = 0; number <= LAHZAVAR_ONLY_FOR_CARS; number++) {
@@ -103,10 +100,9 @@ static void check(void)
 
 static size_t count_frames(void)
 {
-    size_t at = 0, frames = 0;
-    while (at + 2 <= input_length) {
-        frames += length_at(at) != 0;
-        at += 2 + length_at(at);
+    size_t at = 0, length, frames = 0;
+    while (next_frame(&at, &length) != NULL) {
+        frames++;
     }
     return frames;
 }
