@@ -5,3 +5,4 @@ pub mod HeadWords
 pub mod Meant
 pub mod SearchLaws
 pub mod WholeLaws
+pub mod WipedLaws

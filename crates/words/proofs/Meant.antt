@@ -30,13 +30,13 @@ sums-limited n (x ∷ s) (suc i) = sums-limited n s i
 -- the profiles suit the phase where its time and retries do
 phase-limited : (k t n m : ℕ) → InPhase (phaseOf k t n) (profilesOf (phaseOf k t n) m)
 unfolding phaseOf profilesOf
-phase-limited k t n m = split (eqb k 0)
-    (λ a. rw a ((omega arith, omega arith), refl))
-    (λ a. rw a (split (eqb k 1)
-    (λ b. rw b ((omega arith, omega arith), omega arith))
-    (λ b. rw b (split (eqb k 2)
-    (λ c. rw c ((omega arith, omega arith), (omega arith, (omega arith, omega arith))))
-    (λ c. rw c ((omega arith, omega arith), (omega arith, omega arith)))))))
+phase-limited k t n m = split (eqb k 1)
+    (λ a. rw a ((omega arith, omega arith), omega arith))
+    (λ a. rw a (split (eqb k 2)
+    (λ b. rw b ((omega arith, omega arith), (omega arith, (omega arith, omega arith))))
+    (λ b. rw b (split (eqb k 3)
+    (λ c. rw c ((omega arith, omega arith), (omega arith, omega arith)))
+    (λ c. rw c ((omega arith, omega arith), refl))))))
 
 pub record-meant : (w s : List ℕ) → GoodRecord (recordOf w s)
 unfolding recordOf isHeld

@@ -49,13 +49,13 @@ module _ {A : Type 0} where
 abbrev pub timeWithin : ℕ → ℕ → ℕ
 timeWithin start n = min start (max 1 n)
 
--- a phase by its number, with its time and its retries
+-- a phase by its number, with its time and its retries: any other number is Asked, the first of them
 unfoldable pub phaseOf : ℕ → ℕ → ℕ → Phase
 phaseOf k t n =
-    cond (eqb k 0) (Asked (timeWithin askedTime t))
-    (cond (eqb k 1) (Sounding (timeWithin soundingTime t))
+    cond (eqb k 1) (Sounding (timeWithin soundingTime t))
     (cond (eqb k 2) (Reported (timeWithin reportedTime t) (min retryCount n))
-    (Awaiting (timeWithin awaitingTime t))))
+    (cond (eqb k 3) (Awaiting (timeWithin awaitingTime t))
+    (Asked (timeWithin askedTime t))))
 
 -- the profiles counted: as many as the phase allows
 unfoldable pub profilesOf : Phase → ℕ → ℕ
@@ -107,13 +107,13 @@ configOf w = record {
   nmk = record { 0 = getD w 4 0; 1 = getD w 5 0 };
 }
 
--- a state by its number, with its time, its car and its run
+-- a state by its number, with its time, its car and its run: any other number is Unmatched
 unfoldable pub stateBy : ℕ → ℕ → ℕ → ℕ → State
 stateBy k t car run =
-    cond (eqb k 0) Unmatched
-    (cond (eqb k 1) (Matching (t % 2 ^ 32))
+    cond (eqb k 1) (Matching (t % 2 ^ 32))
     (cond (eqb k 2) (Joining (t % 2 ^ 32) (record { 0 = car }) (record { 0 = run }))
-    Matched))
+    (cond (eqb k 3) Matched
+    Unmatched))
 
 -- the state
 abbrev pub stateOf : List ℕ → State

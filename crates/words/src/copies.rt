@@ -2,7 +2,7 @@
 use messages::GROUPS;
 ghost use mathlib.Core.Path.{_≡_};
 ghost use Prim.Native.Nat.{_+_, _≤_};
-ghost use lib.ListN.{length};
+ghost use lib.ListN.{length, replicate};
 ghost use lib.Seq.{sets};
 ghost use Rattle.messages.specs.Octets.{part};
 ghost use Rattle.messages.specs.Table.{groupCount};
@@ -29,6 +29,28 @@ pub(crate) fn put_sums(src: &[u16], sums: &mut [u16], at: usize)
     let mut i: usize = 0;
     while i < src.len() {
         sums[at + i] = src[i];
+        i += 1;
+    }
+}
+
+// Stores 0 in every word.
+pub(crate) fn clear_words(words: &mut [u64])
+    ensures { λ _. ⌜ now (words .exit) ≡ replicate (length (now (words .entry))) 0 ⌝ }
+{
+    let mut i: usize = 0;
+    while i < words.len() {
+        words[i] = 0;
+        i += 1;
+    }
+}
+
+// Stores 0 in every sum.
+pub(crate) fn clear_sums(sums: &mut [u16])
+    ensures { λ _. ⌜ now (sums .exit) ≡ replicate (length (now (sums .entry))) 0 ⌝ }
+{
+    let mut i: usize = 0;
+    while i < sums.len() {
+        sums[i] = 0;
         i += 1;
     }
 }

@@ -75,13 +75,10 @@ fn time(start: u32, word: u64) -> u32
     at_most(start, positive(word))
 }
 
-// A phase by its number.
+// A phase by its number; any other number is Asked.
 pub(crate) fn phase(number: u64, left: u64, retries: u64) -> Phase
     ensures { λ r. ⌜ r ≡ phaseOf number left retries ⌝ }
 {
-    if number == 0 {
-        return Phase::Asked(time(ASKED_TIME, left));
-    }
     if number == 1 {
         return Phase::Sounding(time(SOUNDING_TIME, left));
     }
@@ -91,7 +88,10 @@ pub(crate) fn phase(number: u64, left: u64, retries: u64) -> Phase
             retries: at_most_count(RETRIES, retries),
         };
     }
-    Phase::Awaiting(time(AWAITING_TIME, left))
+    if number == 3 {
+        return Phase::Awaiting(time(AWAITING_TIME, left));
+    }
+    Phase::Asked(time(ASKED_TIME, left))
 }
 
 // The profiles counted.
@@ -109,13 +109,10 @@ pub(crate) fn profiles(phase: Phase, word: u64) -> u8
     }
 }
 
-// A state by its number.
+// A state by its number; any other number is Unmatched.
 pub(crate) fn state(number: u64, left: u64, car: u64, run: u64) -> State
     ensures { λ r. ⌜ r ≡ stateBy number left car run ⌝ }
 {
-    if number == 0 {
-        return State::Unmatched;
-    }
     if number == 1 {
         return State::Matching(low(left));
     }
@@ -126,7 +123,10 @@ pub(crate) fn state(number: u64, left: u64, car: u64, run: u64) -> State
             run: RunId(run),
         };
     }
-    State::Matched
+    if number == 3 {
+        return State::Matched;
+    }
+    State::Unmatched
 }
 
 // 1 for what is so.

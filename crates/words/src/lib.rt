@@ -25,6 +25,7 @@ ghost use Rattle.rules.specs.Rules.{freeRecord};
 ghost use Rattle.records.specs.Places.{placeOf};
 ghost use Rattle.words.specs.Words.{configOf, stateOf, recordsOf, heldCount, stationOf, withRecords};
 ghost use Rattle.words.specs.Written.{stateNumber};
+ghost use Rattle.words.specs.Wiped.{Wiped};
 
 // How many words the head has.
 pub const HEAD: usize = 12;
@@ -121,4 +122,11 @@ pub fn pack(station: Station, words: &mut StationWords, sums: &mut StationSums)
     ensures { λ _. ⌜ stationOf (now (words .exit)) (now (sums .exit)) ≡ station ⌝ }
 {
     whole::pack(station, words, sums);
+}
+
+// Wipes a station, its key too: it answers 16 to everything.
+pub fn wipe(words: &mut StationWords, sums: &mut StationSums)
+    ensures { λ _. ⌜ Wiped (now (words .exit)) (now (sums .exit)) ⌝ }
+{
+    whole::wipe(words, sums);
 }

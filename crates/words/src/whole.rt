@@ -1,4 +1,5 @@
 // The whole station: out of its words and sums, and into them.
+use crate::copies;
 use crate::head;
 use crate::one_record;
 use rules::RECORDS;
@@ -9,6 +10,7 @@ ghost use lib.ListN.{length};
 ghost use Rattle.rules.specs.Invariant.{GoodRecord, Invariant};
 ghost use Rattle.rules.specs.Lists.{All};
 ghost use Rattle.words.specs.Words.{wordCount, sumCount, recordsOf, stationOf, withRecords};
+ghost use Rattle.words.specs.Wiped.{Wiped};
 
 // All records.
 fn read_all(words: &[u64], sums: &[u16]) -> RecordArray
@@ -68,4 +70,13 @@ pub(crate) fn pack(station: Station, words: &mut [u64], sums: &mut [u16])
     let records = station.records;
     head::put(words, config, state, pilot, station.clock);
     store_all(records, words, sums);
+}
+
+// Wipes a station.
+pub(crate) fn wipe(words: &mut [u64], sums: &mut [u16])
+    requires { ⌜ (length (now words) ≡ wordCount) × (length (now sums) ≡ sumCount) ⌝ }
+    ensures { λ _. ⌜ Wiped (now (words .exit)) (now (sums .exit)) ⌝ }
+{
+    copies::clear_words(words);
+    copies::clear_sums(sums);
 }

@@ -12,31 +12,31 @@ time-requires c κs = search needs
 
 returns : tie.Need-returns
 unfolding phaseOf
-returns c = rw (eq-eqb _ _ (c .before .if1 .taken)) (ap Asked (c .time .ensures))
+returns c = rw (eq-eqb _ _ (c .before .if1 .taken)) (ap Sounding (c .time .ensures))
 
 time-requires-2 : tie.Need-time-requires-2
 time-requires-2 c κs = search needs
 
+at-most-count-requires : tie.Need-at-most-count-requires
+at-most-count-requires c κs = search needs
+
 returns-2 : tie.Need-returns-2
 unfolding phaseOf
-returns-2 c = rw (ne-eqb _ _ (c .before .before .if1 .left), eq-eqb _ _ (c .before .if2 .taken)) (ap Sounding (c .time2 .ensures))
+returns-2 c = rw (ne-eqb _ _ (c .before .before .before .if1 .left), eq-eqb _ _ (c .before .before .if2 .taken)) (ap₂ Reported (c .before .time2 .ensures) (c .at-most-count .ensures))
 
 time-requires-3 : tie.Need-time-requires-3
 time-requires-3 c κs = search needs
 
-at-most-count-requires : tie.Need-at-most-count-requires
-at-most-count-requires c κs = search needs
-
 returns-3 : tie.Need-returns-3
 unfolding phaseOf
-returns-3 c = rw (ne-eqb _ _ (c .before .before .before .before .if1 .left), ne-eqb _ _ (c .before .before .before .if2 .left), eq-eqb _ _ (c .before .before .if3 .taken)) (ap₂ Reported (c .before .time3 .ensures) (c .at-most-count .ensures))
+returns-3 c = rw (ne-eqb _ _ (c .before .before .before .if1 .left), ne-eqb _ _ (c .before .before .if2 .left), eq-eqb _ _ (c .before .if3 .taken)) (ap Awaiting (c .time3 .ensures))
 
 time-requires-4 : tie.Need-time-requires-4
 time-requires-4 c κs = search needs
 
 returns-4 : tie.Need-returns-4
 unfolding phaseOf
-returns-4 c = rw (ne-eqb _ _ (c .before .before .before .if1 .left), ne-eqb _ _ (c .before .before .if2 .left), ne-eqb _ _ (c .before .if3 .left)) (ap Awaiting (c .time4 .ensures))
+returns-4 c = rw (ne-eqb _ _ (c .before .before .before .if1 .left), ne-eqb _ _ (c .before .before .if2 .left), ne-eqb _ _ (c .before .if3 .left)) (ap Asked (c .time4 .ensures))
 
 pub phase-spec : {M : Type 1} → statement M
 phase-spec =
@@ -45,9 +45,9 @@ phase-spec =
     time-requires
     returns
     time-requires-2
+    at-most-count-requires
     returns-2
     time-requires-3
-    at-most-count-requires
     returns-3
     time-requires-4
     returns-4)
