@@ -3,7 +3,7 @@
  *
  * A driver keeps one struct lahzavar_station for each outlet, configures it, and hands it every event: frames from the
  * modem, clock readings, pilot states, terminate and link up. The answer says which frames to send, and whether the link
- * is established or the matching has failed. Link with libcapi.a.
+ * is established or the matching has failed. Link with liblahzavar.a.
  *
  * What a caller owes, and all that it owes:
  * - The station was configured before its first other call, and nothing but these calls writes it.

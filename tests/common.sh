@@ -14,19 +14,19 @@ quietly() {
     "$@" > "$work/log" 2>&1 || { cat "$work/log" >&2; fail "failed: $*"; }
 }
 
-# Finds libcapi.a in LAHZAVAR_LIB_DIR, else in target/staticlib, where it is made anew if a source is newer.
+# Finds liblahzavar.a in LAHZAVAR_LIB_DIR, else in target/staticlib, where it is made anew if a source is newer.
 find_library() {
     if [ -z "${LAHZAVAR_LIB_DIR:-}" ]; then
-        local made=target/staticlib/libcapi.a
+        local made=target/staticlib/liblahzavar.a
         if [ ! -f "$made" ] || [ -n "$(find crates crates.txt -type f -not -path '*/must-fail/*' -newer "$made" -print -quit)" ]; then
             quietly rt check words station # side by side, where the next command takes them one by one
-            quietly rt staticlib capi
+            quietly rt staticlib lahzavar
         fi
         LAHZAVAR_LIB_DIR=target/staticlib
     fi
     LAHZAVAR_LIB_DIR=$(cd "$LAHZAVAR_LIB_DIR" && pwd)
     export LAHZAVAR_LIB_DIR
-    [ -f "$LAHZAVAR_LIB_DIR/libcapi.a" ] || fail "no $LAHZAVAR_LIB_DIR/libcapi.a"
+    [ -f "$LAHZAVAR_LIB_DIR/liblahzavar.a" ] || fail "no $LAHZAVAR_LIB_DIR/liblahzavar.a"
 }
 
 # compile NAME SOURCE [FLAG..]: a C program of the library, in the temporary folder.
@@ -34,7 +34,7 @@ compile() {
     local name=$1 source=$2
     shift 2
     quietly "${CC:-cc}" -std=c99 -O2 -Wall -Wextra -Wpedantic -Werror -I include -I examples/c "$@" "$source" \
-        "$LAHZAVAR_LIB_DIR/libcapi.a" -o "$work/$name"
+        "$LAHZAVAR_LIB_DIR/liblahzavar.a" -o "$work/$name"
 }
 
 # in_cargo FOLDER ARGUMENT..: cargo without a network, which leaves nothing behind; a warning is an error.

@@ -34,9 +34,9 @@
 //! # Ok::<(), lahzavar::Refusal>(())
 //! ```
 //!
-//! The library, `libcapi.a`, is linked from the folder that the environment variable
+//! The library, `liblahzavar.a`, is linked from the folder that the environment variable
 //! `LAHZAVAR_LIB_DIR` names when this crate is built, or else from `target/staticlib` of the
-//! repository, where `rt staticlib capi` puts it.
+//! repository, where `rt staticlib lahzavar` puts it.
 
 #![no_std]
 

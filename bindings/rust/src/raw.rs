@@ -1,4 +1,4 @@
-//! What libcapi.a exports; include/lahzavar.h has the same in C.
+//! What liblahzavar.a exports; include/lahzavar.h has the same in C.
 
 use crate::{SUMS, WORDS};
 

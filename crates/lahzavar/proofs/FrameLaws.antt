@@ -1,0 +1,146 @@
+-- A frame on lent words and sums: what its parts come to, and the call's promise.
+use Prim.Native.Nat.{ℕ}
+use mathlib.Core.Path.{_≡_, refl, sym, ap, ap₂, _∙_, subst}
+use mathlib.Core.List.{List, [], _∷_, append-nil}
+use denote.Enum.Declared.{tagOf}
+use lib.Dec.{ltb}
+use lib.ListN.{length, getD, set}
+use types.Run.{OneOf}
+use Rattle.messages.specs.declared.CarAddress.{CarAddress}
+use Rattle.messages.specs.declared.Refusal.{Refusal}
+use Rattle.messages.specs.declared.RunId.{RunId}
+use Rattle.messages.specs.Answers.{numberOf}
+use Rattle.messages.specs.Octets.{splice}
+use Rattle.messages.specs.Reading.{Checked, no, yes, groupsOf, readRules}
+use Rattle.rules.specs.declared.Configuration.{Configuration}
+use Rattle.rules.specs.declared.Indication.the-variants.{Nothing}
+use Rattle.rules.specs.declared.Record.{Record}
+use Rattle.rules.specs.declared.State.{State}
+use Rattle.rules.specs.declared.State.the-variants.{Matching}
+use Rattle.rules.specs.Answers.{Summary}
+use Rattle.rules.specs.Calls as calls
+use Rattle.rules.specs.Frames.{Kept, keeps, stateRule}
+use Rattle.rules.specs.Lists.{joins}
+use Rattle.rules.specs.Outcomes.{joined, andThen}
+use Rattle.rules.specs.Received.{RecordMessage, parmReq, Request, forRecord}
+use Rattle.rules.specs.Records.{fresh}
+use Rattle.rules.specs.Replies.{parmCnf}
+use Rattle.rules.specs.Rules.{rule, sharedStep, step, outcome}
+use Rattle.rules.specs.Stations.{Done, shared, inner}
+use Rattle.rules.proofs.State.{the-type}
+use Rattle.records.specs.declared.find.Found.{Found}
+use Rattle.records.specs.declared.find.Found.the-variants.{Own}
+use Rattle.records.specs.Places.{placeOf}
+use Rattle.records.proofs.find.Found as places
+use Rattle.records.proofs.PlaceLaws.{found, not-own}
+use Rattle.receiving.specs.declared.admission.Admission.{Admission}
+use Rattle.receiving.specs.declared.judge.Judged.{Judged}
+use Rattle.receiving.specs.declared.judge.Judged.the-variants as judged
+use Rattle.receiving.specs.declared.judge.OwnMessage.{OwnMessage}
+use Rattle.receiving.specs.declared.judge.Request as code
+use Rattle.receiving.specs.AtRecord.{admissionRule, admissionOf, ownRule}
+use Rattle.station.specs.Frames.{Ready, settled}
+use Rattle.receiving.specs.Judge.{Asking, ownMessageOf, judgedOf, judgeRule}
+use Rattle.station.proofs.ComesLaws.{state-other}
+use Rattle.station.proofs.OwnLaws.{own-none, own-settled}
+use Rattle.station.proofs.ParmLaws.{parm-answered}
+use Rattle.receiving.proofs.JudgeLaws.{taken, frame-judged, judges}
+use Rattle.words.specs.Words.{configOf, stateOf, recordsOf, stationOf, withRecords}
+use Rattle.words.proofs.Meant.{meant}
+use Rattle.lahzavar.specs.declared.Answered.{Answered}
+use Rattle.lahzavar.specs.Answers.{saidOf, answered}
+use Rattle.lahzavar.specs.Frames.{Sends, Comes, Stores}
+use Rattle.lahzavar.specs.Lent.{Lent}
+
+-- ---- what the parts come to
+
+-- the same rule in other words
+pub comes-as : (x y : Checked Done) (w s entry exit v t : List ℕ) (r : Answered) → x ≡ y → Comes x w s entry exit v t r → Comes y w s entry exit v t r
+comes-as x y w s entry exit v t r e h = subst (λ (z : Checked Done). Comes z w s entry exit v t r) e h
+
+-- a refusal
+pub comes-refused : (x : Checked Done) (n : Refusal) (w s out : List ℕ) (r : Answered) → x ≡ no (numberOf n) → r ≡ saidOf (no (numberOf n)) → Comes x w s out out w s r
+unfolding splice joins
+comes-refused x n w s out r e q = comes-as (no (numberOf n)) x w s out out w s r (sym e) (record { station = refl; answer = q; octets = refl; kept = λ z. (refl, refl) })
+
+-- a record stored at place i, and some frames sent
+pub comes-stored : (w s entry exit v t : List ℕ) (i : ℕ) (k : Record) (fs : List (List ℕ)) (r : Answered) → stationOf v t ≡ withRecords (stationOf w s) (set (recordsOf w s) i k)
+    → r ≡ answered (yes (record { frames = fs; indication = Nothing })) → exit ≡ splice 0 (joined fs) entry
+    → Stores i k fs w s entry exit v t r
+unfolding stationOf
+comes-stored w s entry exit v t i k fs r p q e = record { station = p; answer = q; octets = e; kept = λ z. absurd (z (ap (λ (a : Answered). a .refusal) q)) }
+
+-- the same with no frame
+pub comes-silent : (w s out v t : List ℕ) (i : ℕ) (k : Record) (r : Answered) → stationOf v t ≡ withRecords (stationOf w s) (set (recordsOf w s) i k)
+    → r ≡ saidOf (yes (record { frames = 0; octets = 0; indication = Nothing })) → Stores i k [] w s out out v t r
+unfolding splice joins
+comes-silent w s out v t i k r p q = comes-stored w s out out v t i k [] r p q refl
+
+-- one frame of n octets
+pub one-sent : (f entry exit : List ℕ) (n : ℕ) (r : Answered) → r ≡ saidOf (yes (record { frames = 1; octets = n; indication = Nothing })) → n ≡ length f → exit ≡ splice 0 f entry → Sends f entry exit r
+unfolding joins
+one-sent f entry exit n r q e o = record {
+  answer = q ∙ ap (λ (k : ℕ). saidOf (yes (let y : Summary = record { frames = 1; octets = k; indication = Nothing } in y))) (e ∙ ap length (sym (append-nil f)));
+  octets = o ∙ ap (λ (ws : List ℕ). splice 0 ws entry) (sym (append-nil f));
+}
+
+-- ---- what a car's request comes to, by what is read of the words
+
+module _ (w s : List ℕ) (c : CarAddress) where
+  -- the rule of a request
+  abbrev ruleOf : Request → Checked Done
+  ruleOf m = stateRule (stationOf w s .config) (stationOf w s .state) (stationOf w s .records) c m
+
+  -- the configuration
+  pub config-here : (o : Configuration) → o ≡ configOf w → o ≡ stationOf w s .config
+  unfolding stationOf
+  config-here o e = e
+
+  module _ (st : State) (es : st ≡ stateOf w) where
+    -- 8 where the state is not Matching
+    pub takes-none : (m : RecordMessage) → OneOf (0 ∷ 2 ∷ 3 ∷ []) (tagOf the-type st) → ruleOf (forRecord m) ≡ no 8
+    unfolding stationOf
+    takes-none m t = ap (λ (q : State). stateRule (configOf w) q (recordsOf w s) c (forRecord m)) (sym es) ∙ state-other (configOf w) st (recordsOf w s) c m t
+
+    module _ (a : ℕ) (t : st ≡ Matching a) (p : Found) (ep : (z : List ℕ) → p ≡ placeOf c (recordsOf w z)) where
+      -- PARM.REQ, by what is answered of the place
+      pub takes-parm : (run : RunId) (x k : Admission) → admissionOf x ≡ admissionRule p (ltb 0 a) → x ≡ k
+          → ruleOf (forRecord (parmReq run)) ≡ andThen (admissionOf k) (λ (i : ℕ). settled (stationOf w s) i c (keeps (fresh c run) (parmCnf run ∷ [])))
+      unfolding stationOf
+      takes-parm run x k ex ek =
+          parm-answered (configOf w) (stateOf w) (recordsOf w s) c run a (sym es ∙ t) p (ep s) x ex
+          ∙ ap (λ (y : Admission). andThen (admissionOf y) (λ (i : ℕ). settled (stationOf w s) i c (keeps (fresh c run) (parmCnf run ∷ [])))) ek
+
+      module _ (m : OwnMessage) (g : List ℕ) where
+        -- 11 where the car holds no record
+        pub takes-missing : OneOf (1 ∷ 2 ∷ []) (tagOf places.the-type p) → ruleOf (forRecord (ownMessageOf m g)) ≡ no 11
+        unfolding stationOf
+        takes-missing o = own-none (stationOf w s) c m g a (sym es ∙ t) (not-own c (recordsOf w s) p (ep s) o)
+
+        -- a message at the car's own record
+        pub takes-own : (i : ℕ) (d r : Record) (x : Checked Kept) → p ≡ Own i → r ≡ getD (recordsOf w s) i d → x ≡ ownRule m g r → settled (stationOf w s) i c x ≡ ruleOf (forRecord (ownMessageOf m g))
+        unfolding stationOf
+        takes-own i d r x e er ex = own-settled (stationOf w s) c m g a (sym es ∙ t) i d x (found c (recordsOf w s) p (Own i) (ep s) e) (ex ∙ ap (ownRule m g) er)
+
+-- ---- the call
+
+module _ (w s octets out : List ℕ) (o : Configuration) (st : State) (j : Judged) (eo : o ≡ configOf w) (es : st ≡ stateOf w)
+    (ej : judgedOf j (groupsOf (readRules octets)) ≡ judgeRule o st (length out) octets) where
+  -- what judging gives of the station of the words
+  judged-here : (k : Judged) → j ≡ k → judgeRule (stationOf w s .config) (stationOf w s .state) (length out) octets ≡ judgedOf k (groupsOf (readRules octets))
+  unfolding stationOf
+  judged-here k t = sym (ap₂ (λ (p : Configuration) (q : State). judgeRule p q (length out) octets) eo es) ∙ sym ej ∙ ap (λ (x : Judged). judgedOf x (groupsOf (readRules octets))) t
+
+  -- the promise, from what the rule of the judged request comes to
+  pub frame-lent : (k : Judged) (exit v t : List ℕ) (r : Answered) → j ≡ k → Comes (andThen (judgedOf k (groupsOf (readRules octets))) (taken (stationOf w s))) w s out exit v t r
+      → Lent (calls.frame octets (length out)) w s out exit v t r
+  unfolding step outcome sharedStep
+  frame-lent k exit v t r e h =
+      comes-as _ (rule (shared (stationOf w s)) (inner (stationOf w s)) (calls.frame octets (length out))) w s out exit v t r
+      (sym (frame-judged (stationOf w s) octets (length out) ∙ ap (λ (x : Checked Asking). andThen x (taken (stationOf w s))) (judged-here k e))) h
+
+  -- a reply to the car of a request can be sent
+  pub frame-ready : (c : CarAddress) (m : code.Request) → j ≡ judged.Taken c m → Ready (stationOf w s) c out
+  frame-ready c m t =
+      let shown = judges (stationOf w s .config) (stationOf w s .state) (length out) octets _ (judged-here (judged.Taken c m) t) in
+      record { good = shown .good; kept = meant w s; car = shown .car; room = shown .room }

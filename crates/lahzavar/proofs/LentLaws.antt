@@ -1,0 +1,87 @@
+-- What a call on a lent station promises, from the call by value and what was stored of it.
+use Prim.Native.Nat.{ℕ, _<_, _≤_}
+use mathlib.Core.Path.{_≡_, refl, sym, ap, ap₂, _∙_, subst}
+use mathlib.Core.Bool.{Bool, true, false}
+use mathlib.Core.List.{List, []}
+use lib.Dec.{eqb}
+use borrow.Author.Tests.{eqb-true, eqb-false, le-leb, lt-leb}
+use Rattle.messages.specs.declared.ModemAddress.{ModemAddress}
+use Rattle.messages.specs.declared.Nid.{Nid}
+use Rattle.messages.specs.declared.Nmk.{Nmk}
+use Rattle.messages.specs.declared.StationAddress.{StationAddress}
+use Rattle.messages.specs.Octets.{splice}
+use Rattle.messages.specs.Reading.{Checked, no, yes, check}
+use Rattle.rules.specs.declared.Configured.{Configured}
+use Rattle.rules.specs.declared.Pilot.{Pilot}
+use Rattle.rules.specs.declared.Station.{Station}
+use Rattle.rules.specs.declared.Stepped.{Stepped}
+use Rattle.rules.specs.Answers as rules
+use Rattle.rules.specs.Answers.{Answers, answerOf}
+use Rattle.rules.specs.Calls.{Call, pilot}
+use Rattle.rules.specs.Lists.{joins}
+use Rattle.rules.specs.Outcomes.{Outcome}
+use Rattle.rules.specs.Rules.{outcome}
+use Rattle.rules.proofs.Logic.{split}
+use Rattle.rules.proofs.Refusals.{refused-station}
+use Rattle.rules.specs.Numbers.{pilotOf}
+use Rattle.words.specs.Words.{stationOf}
+use Rattle.lahzavar.specs.declared.Answered.{Answered}
+use Rattle.lahzavar.specs.Answers.{saidOf, answered}
+use Rattle.lahzavar.specs.Lent.{Leaves, Lent, pilotBy, pilotStep, pilotOutcome, PilotLent, Configures}
+use Rattle.lahzavar.specs.Storing.{Settles}
+
+-- an answer whose refusal is not 0 is to a refusal
+refused-by : (o : Outcome) → (answered o .refusal ≡ 0 → ⊥) → (n : ℕ) × (o ≡ no n)
+refused-by (no n) h = (n, refl)
+refused-by (yes x) h = absurd (h refl)
+
+module _ (x : Call) (w s entry exit v t : List ℕ) (r : Answered) where
+  -- by the station of the words
+  settled : (k : Stepped) → Answers (stationOf w s) x entry exit k → Settles k w s v t r → Lent x w s entry exit v t r
+  settled k a q =
+      let said : r ≡ answered (outcome (stationOf w s) x) = q .answer ∙ ap saidOf (a .answer) in
+      record {
+        station = split (eqb (r .refusal) 0)
+            (λ z. q .stored (eqb-true (r .refusal) 0 z) ∙ a .station)
+            (λ z.
+            let f : r .refusal ≡ 0 → ⊥ = eqb-false (r .refusal) 0 z in
+            let no-call = refused-by (outcome (stationOf w s) x) (λ e. f (ap (λ (y : Answered). y .refusal) said ∙ e)) in
+            ap₂ stationOf (q .kept f .0) (q .kept f .1) ∙ sym (refused-station (stationOf w s) x (no-call .0) (no-call .1)));
+        answer = said;
+        octets = a .octets;
+        kept = q .kept;
+      }
+
+  -- by the station that was unpacked
+  pub lent : (u : Station) (k : Stepped) → u ≡ stationOf w s → Answers u x entry exit k → Settles k w s v t r → Lent x w s entry exit v t r
+  lent u k e a q = settled k (subst (λ (y : Station). Answers y x entry exit k) e a) q
+
+-- ---- the pilot state by its number
+
+module _ (n reading : ℕ) (w s : List ℕ) (r : Answered) where
+  -- what the number names decides
+  abbrev By : Checked Pilot → (v t : List ℕ) → Type 0
+  By p v t = Leaves (pilotStep (stationOf w s) reading p) (pilotOutcome (stationOf w s) reading p) w s [] [] v t r
+
+  -- a number up to 5
+  pub pilot-lent : (v t : List ℕ) (p : Pilot) → p ≡ pilotOf n → n ≤ 5 → Lent (pilot p reading) w s [] [] v t r → PilotLent n reading w s [] [] v t r
+  pilot-lent v t p e h q =
+      let b : pilotBy n ≡ yes p = ap (λ (x : Bool). check x 8 (yes (pilotOf n))) (le-leb n 5 h) ∙ ap yes (sym e) in
+      subst (λ (k : Checked Pilot). By k v t) (sym b) q
+
+  -- another number, by whether the configuration is good
+  refused : (g : Bool) → r ≡ saidOf (check g 16 (no 8)) → Leaves (stationOf w s) (check g 16 (no 8)) w s [] [] w s r
+  unfolding splice joins
+  refused true e = record { station = refl; answer = e; octets = refl; kept = λ h. (refl, refl) }
+  refused false e = record { station = refl; answer = e; octets = refl; kept = λ h. (refl, refl) }
+
+  pub no-pilot-lent : (g : Bool) → g ≡ stationOf w s .config .good → 5 < n → r ≡ saidOf (check g 16 (no 8)) → PilotLent n reading w s [] [] w s r
+  no-pilot-lent g c h e =
+      let b : pilotBy n ≡ no 8 = ap (λ (x : Bool). check x 8 (yes (pilotOf n))) (lt-leb n 5 h) in
+      subst (λ (p : Checked Pilot). By p w s) (sym b) (refused (stationOf w s .config .good) (e ∙ ap (λ (x : Bool). saidOf (check x 16 (no 8))) c))
+
+-- ---- configuring
+
+pub configured-lent : (a : StationAddress) (m : ModemAddress) (nid : Nid) (nmk : Nmk) (k : Configured) (v t : List ℕ) (r : Answered)
+    → rules.Configures a m nid nmk k → stationOf v t ≡ k .station → r ≡ saidOf (answerOf (k .answer)) → Configures a m nid nmk v t r
+configured-lent a m nid nmk k v t r c e q = record { station = e ∙ c .station; answer = q ∙ ap saidOf (c .answer) }

@@ -1,0 +1,26 @@
+-- The answers as plain numbers.
+use Prim.Native.Nat.{ℕ, _+_, _*_, _^_, _%_}
+use Rattle.messages.specs.Reading.{Checked, no, yes}
+use Rattle.rules.specs.Outcomes.{Outcome}
+use Rattle.rules.specs.Numbers.{indicationNumber}
+use Rattle.rules.specs.Answers.{Summary, summary}
+use Rattle.lahzavar.specs.declared.Answered.{Answered}
+use Rattle.lahzavar.specs.declared.Heard.{Heard}
+
+-- 0.2.0: 65536 times the major number, 256 times the minor, and the patch
+abbrev pub version : ℕ
+version = 65536 * 0 + 256 * 2 + 0
+
+-- a refusal's number and nothing else, or 0 with the numbers of what was sent; the octets' number has 32 binary digits, which hold all of it (`octets-exact`)
+abbrev pub saidOf : Checked Summary → Answered
+saidOf (no n) = record { refusal = n; indication = 0; frames = 0; octets = 0 }
+saidOf (yes x) = record { refusal = 0; indication = indicationNumber (x .indication); frames = x .frames; octets = x .octets % 2 ^ 32 }
+
+-- the answer to an outcome
+abbrev pub answered : Outcome → Answered
+answered o = saidOf (summary o)
+
+-- the answer of the service query
+abbrev pub heardAs : Checked ℕ → Heard
+heardAs (no n) = record { refusal = n; sounds = 0 }
+heardAs (yes n) = record { refusal = 0; sounds = n }

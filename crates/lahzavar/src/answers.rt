@@ -1,0 +1,93 @@
+// Answers as plain numbers.
+use crate::Answered;
+use crate::Heard;
+use messages::Refusal;
+use rules::Answer;
+use rules::Configuration;
+use rules::HeardAnswer;
+ghost use mathlib.Core.Path.{_≡_};
+ghost use Prim.Native.Nat.{_^_, _%_};
+ghost use Rattle.messages.specs.Answers.{numberOf};
+ghost use Rattle.messages.specs.Reading.{no, check};
+ghost use Rattle.rules.specs.Answers.{answerOf, heardOf};
+ghost use Rattle.lahzavar.specs.Answers.{saidOf, heardAs};
+
+// A wider number.
+pub(crate) fn wide(x: u32) -> u64
+    ensures { λ r. ⌜ r ≡ x ⌝ }
+{
+    x as u64
+}
+
+// A wider count.
+fn count(x: u8) -> u32
+    ensures { λ r. ⌜ r ≡ x ⌝ }
+{
+    x as u32
+}
+
+// The low 32 binary digits.
+fn low(x: usize) -> u32
+    ensures { λ r. ⌜ r ≡ x % 2 ^ 32 ⌝ }
+{
+    (x % 4294967296) as u32
+}
+
+// A refusal.
+pub(crate) fn refused(refusal: Refusal) -> Answered
+    ensures { λ r. ⌜ r ≡ saidOf (no (numberOf refusal)) ⌝ }
+{
+    let n = messages::refusal_number(refusal);
+    Answered {
+        refusal: n,
+        indication: 0,
+        frames: 0,
+        octets: 0,
+    }
+}
+
+// What a call by value answered.
+pub(crate) fn answered(answer: Answer) -> Answered
+    ensures { λ r. ⌜ r ≡ saidOf (answerOf answer) ⌝ }
+{
+    match answer {
+        Answer::Refused(refusal) => refused(refusal),
+        Answer::Done {
+            frames,
+            octets,
+            indication: told,
+        } => Answered {
+            refusal: 0,
+            indication: rules::indication_number(told),
+            frames: count(frames),
+            octets: low(octets),
+        },
+    }
+}
+
+// The refusal of a number that names no pilot state: 16, then 8.
+pub(crate) fn no_pilot(config: Configuration) -> Answered
+    ensures { λ r. ⌜ r ≡ saidOf (check (config .good) 16 (no 8)) ⌝ }
+{
+    if config.good {
+        refused(Refusal::WrongState)
+    } else {
+        refused(Refusal::BadConfiguration)
+    }
+}
+
+// The service query's answer.
+pub(crate) fn heard(answer: HeardAnswer) -> Heard
+    ensures { λ r. ⌜ r ≡ heardAs (heardOf answer) ⌝ }
+{
+    match answer {
+        HeardAnswer::Refused(refusal) => Heard {
+            refusal: messages::refusal_number(refusal),
+            sounds: 0,
+        },
+        HeardAnswer::Heard(sounds) => Heard {
+            refusal: 0,
+            sounds: sounds,
+        },
+    }
+}

@@ -1,0 +1,227 @@
+// A frame, at one record in place.
+use crate::Answered;
+use crate::answers;
+use crate::storing;
+use messages::CarAddress;
+use messages::GroupValues;
+use messages::Message;
+use messages::Refusal;
+use messages::RunId;
+use messages::Written;
+use receiving::admission;
+use receiving::admission::Admission;
+use receiving::judge;
+use receiving::judge::Judged;
+use receiving::judge::OwnMessage;
+use receiving::judge::Request;
+use receiving::own_record;
+use receiving::reply;
+use records::changes;
+use records::find::Found;
+use records::report;
+use records::requests::Effect;
+use records::requests::Kept;
+use rules::Answer;
+use rules::Indication;
+use rules::Record;
+use rules::State;
+use words::StationSums;
+use words::StationWords;
+ghost use mathlib.Core.List.{[], _∷_};
+ghost use lib.ListN.{length};
+ghost use Rattle.messages.specs.Answers.{messageOf};
+ghost use Rattle.messages.specs.Reading.{groupsOf, readRules};
+ghost use Rattle.messages.specs.Writing as writing;
+ghost use Rattle.rules.specs.Calls as calls;
+ghost use Rattle.rules.specs.Frames.{keeps};
+ghost use Rattle.rules.specs.Invariant.{GoodRecord};
+ghost use Rattle.rules.specs.Received.{forRecord, parmReq};
+ghost use Rattle.rules.specs.Records.{owned, fresh};
+ghost use Rattle.rules.specs.Replies.{parmCnf, reportOf};
+ghost use Rattle.records.specs.Requests.{effectOf};
+ghost use Rattle.station.specs.Frames.{Writable, Ready, KeepsGood};
+ghost use Rattle.receiving.specs.Judge.{ownMessageOf};
+ghost use Rattle.words.specs.Words.{stationOf};
+ghost use Rattle.lahzavar.specs.Frames.{Sends, Takes, Puts, Stores};
+ghost use Rattle.lahzavar.specs.Lent.{Lent};
+
+// Writes a message that can be written from the output's first octet.
+fn send(message: Message, values: GroupValues, out: &mut [u8]) -> Answered
+    requires { ⌜ Writable (messageOf message values) (length (now out)) ⌝ }
+    ensures { λ r. ⌜ Sends (writing.frame (messageOf message values)) (now (out .entry)) (now (out .exit)) r ⌝ }
+{
+    let written = messages::write(message, values, out);
+    let Written::Octets(octets) = written else {
+        return answers::refused(Refusal::OutputTooShort);
+    };
+    answers::answered(Answer::Done {
+        frames: 1,
+        octets: octets,
+        indication: Indication::Nothing,
+    })
+}
+
+// A record stored at place i, and one frame sent.
+fn sent(
+    words: &mut StationWords,
+    sums: &mut StationSums,
+    i: usize,
+    r: Record,
+    message: Message,
+    values: GroupValues,
+    out: &mut [u8],
+) -> Answered
+    requires { ⌜ GoodRecord r × Writable (messageOf message values) (length (now out)) ⌝ }
+    ensures { λ x. ⌜ Stores i r (writing.frame (messageOf message values) ∷ []) (now (words .entry)) (now (sums .entry)) (now (out .entry)) (now (out .exit)) (now (words .exit)) (now (sums .exit)) x ⌝ }
+{
+    words::put_record(words, sums, i, r);
+    send(message, values, out)
+}
+
+// PARM.REQ at place i: the record anew, and PARM.CNF.
+fn admit(
+    words: &mut StationWords,
+    sums: &mut StationSums,
+    i: usize,
+    car: CarAddress,
+    run: RunId,
+    out: &mut [u8],
+) -> Answered
+    requires { ⌜ Ready (stationOf (now words) (now sums)) car (now out) ⌝ }
+    ensures { λ r. ⌜ Puts i car (keeps (fresh car run) (parmCnf run ∷ [])) (now (words .entry)) (now (sums .entry)) (now (out .entry)) (now (out .exit)) (now (words .exit)) (now (sums .exit)) r ⌝ }
+{
+    let config = words::config_of(words);
+    let r = changes::owned(car, changes::fresh(car, run));
+    let message = reply::parm_cnf(config, car, run);
+    sent(words, sums, i, r, message, messages::no_groups(), out)
+}
+
+// PARM.REQ: the car's own record restarts; else 9, 10, or the first free record.
+fn parm_req(
+    words: &mut StationWords,
+    sums: &mut StationSums,
+    car: CarAddress,
+    run: RunId,
+    out: &mut [u8],
+) -> Answered
+    requires { ⌜ Ready (stationOf (now words) (now sums)) car (now out) ⌝ }
+    ensures { λ r. ⌜ Takes car (forRecord (parmReq run)) (now (words .entry)) (now (sums .entry)) (now (out .entry)) (now (out .exit)) (now (words .exit)) (now (sums .exit)) r ⌝ }
+{
+    let state = words::state_of(words);
+    let State::Matching(left) = state else {
+        return answers::refused(Refusal::WrongState);
+    };
+    let found = words::find(words, car);
+    let admission = admission::place_for(found, left);
+    match admission {
+        Admission::At(i) => admit(words, sums, i, car, run, out),
+        Admission::Refused(refusal) => answers::refused(refusal),
+    }
+}
+
+// The car's record put back at place i, and its report.
+fn report(
+    words: &mut StationWords,
+    sums: &mut StationSums,
+    i: usize,
+    car: CarAddress,
+    left: Record,
+    out: &mut [u8],
+) -> Answered
+    requires { ⌜ Ready (stationOf (now words) (now sums)) car (now out) × GoodRecord (owned car left) ⌝ }
+    ensures { λ r. ⌜ Puts i car (keeps left (reportOf left ∷ [])) (now (words .entry)) (now (sums .entry)) (now (out .entry)) (now (out .exit)) (now (words .exit)) (now (sums .exit)) r ⌝ }
+{
+    let config = words::config_of(words);
+    let r = changes::owned(car, left);
+    let message = reply::report(config, car, r);
+    sent(words, sums, i, r, message, report::values(r), out)
+}
+
+// What a message at the record at place i comes to: a refusal, the record put back, or its report too.
+fn settle(
+    words: &mut StationWords,
+    sums: &mut StationSums,
+    i: usize,
+    car: CarAddress,
+    kept: Kept,
+    out: &mut [u8],
+) -> Answered
+    requires { ⌜ Ready (stationOf (now words) (now sums)) car (now out) × KeepsGood car (effectOf (kept .kept) (kept .effect)) ⌝ }
+    ensures { λ r. ⌜ Puts i car (effectOf (kept .kept) (kept .effect)) (now (words .entry)) (now (sums .entry)) (now (out .entry)) (now (out .exit)) (now (words .exit)) (now (sums .exit)) r ⌝ }
+{
+    let left = kept.kept;
+    let effect = kept.effect;
+    match effect {
+        Effect::Refused(refusal) => answers::refused(refusal),
+        Effect::NoReply => {
+            words::put_record(words, sums, i, changes::owned(car, left));
+            answers::answered(Answer::Done {
+                frames: 0,
+                octets: 0,
+                indication: Indication::Nothing,
+            })
+        }
+        Effect::Report => report(words, sums, i, car, left, out),
+    }
+}
+
+// START, SOUND, RSP or PROFILE at the car's own record: 11 where it has none.
+fn at_own(
+    words: &mut StationWords,
+    sums: &mut StationSums,
+    car: CarAddress,
+    message: OwnMessage,
+    octets: &[u8],
+    out: &mut [u8],
+) -> Answered
+    requires { ⌜ Ready (stationOf (now words) (now sums)) car (now out) ⌝ }
+    ensures { λ r. ⌜ Takes car (forRecord (ownMessageOf message (groupsOf (readRules (now (octets .entry)))))) (now (words .entry)) (now (sums .entry)) (now (out .entry)) (now (out .exit)) (now (words .exit)) (now (sums .exit)) r ⌝ }
+{
+    let state = words::state_of(words);
+    let State::Matching(_) = state else {
+        return answers::refused(Refusal::WrongState);
+    };
+    let found = words::find(words, car);
+    let Found::Own(i) = found else {
+        return answers::refused(Refusal::NoRecord);
+    };
+    let r = words::record_at(words, sums, i);
+    let kept = own_record::at_record(r, message, octets);
+    settle(words, sums, i, car, kept, out)
+}
+
+// A frame on the whole station, by value.
+fn by_value(
+    words: &mut StationWords,
+    sums: &mut StationSums,
+    octets: &[u8],
+    out: &mut [u8],
+) -> Answered
+    ensures { λ r. ⌜ Lent (calls.frame (now (octets .entry)) (length (now (out .entry)))) (now (words .entry)) (now (sums .entry)) (now (out .entry)) (now (out .exit)) (now (words .exit)) (now (sums .exit)) r ⌝ }
+{
+    let station = words::unpack(words, sums);
+    let stepped = station::frame(station, octets, out);
+    storing::settle(words, sums, stepped)
+}
+
+// A frame was received: MATCH.REQ concerns the whole station, any other one record.
+pub(crate) fn receive(
+    words: &mut StationWords,
+    sums: &mut StationSums,
+    octets: &[u8],
+    out: &mut [u8],
+) -> Answered
+    ensures { λ r. ⌜ Lent (calls.frame (now (octets .entry)) (length (now (out .entry)))) (now (words .entry)) (now (sums .entry)) (now (out .entry)) (now (out .exit)) (now (words .exit)) (now (sums .exit)) r ⌝ }
+{
+    let config = words::config_of(words);
+    let state = words::state_of(words);
+    let judged = judge::judge(config, state, octets, out.len());
+    match judged {
+        Judged::Refused(refusal) => answers::refused(refusal),
+        Judged::Taken { car, request } => match request {
+            Request::Parm(run) => parm_req(words, sums, car, run, out),
+            Request::Own(message) => at_own(words, sums, car, message, octets, out),
+            Request::Match(_) => by_value(words, sums, octets, out),
+        },
+    }
+}

@@ -1,0 +1,199 @@
+// A station for C and Rust to link: lent as words and sums, answered in plain numbers.
+mod answers;
+mod frames;
+mod storing;
+
+use messages::CarAddress;
+use messages::ModemAddress;
+use messages::Nid;
+use messages::Nmk;
+use messages::StationAddress;
+use words::SUMS;
+use words::StationSums;
+use words::StationWords;
+use words::WORDS;
+ghost use mathlib.Core.Path.{_≡_};
+ghost use mathlib.Core.List.{List, []};
+ghost use Prim.Native.Nat.{ℕ};
+ghost use lib.ListN.{length};
+ghost use Rattle.rules.specs.Calls as calls;
+ghost use Rattle.rules.specs.Constants.{leastOutput};
+ghost use Rattle.rules.specs.Rules.{soundsHeard};
+ghost use Rattle.words.specs.Words.{stateOf, recordsOf, heldCount, stationOf, wordCount, sumCount};
+ghost use Rattle.words.specs.Written.{stateNumber};
+ghost use Rattle.words.specs.Wiped.{Wiped};
+ghost use Rattle.lahzavar.specs.Answers.{version, heardAs};
+ghost use Rattle.lahzavar.specs.Lent.{Lent, PilotLent, Configures};
+
+// The version 0.2.0: 65536 times the major number, 256 times the minor, and the patch.
+const VERSION: u32 = 65536 * 0 + 256 * 2 + 0;
+
+// A call's answer: the refusal's number or 0; an indication (0 none, 1 no link, 2 link established); how many frames of how many octets in all.
+#[repr(C)]
+pub struct Answered {
+    pub refusal: u32,
+    pub indication: u32,
+    pub frames: u32,
+    pub octets: u32,
+}
+
+// The service query's answer: the refusal's number or 0, and the sounds heard.
+#[repr(C)]
+pub struct Heard {
+    pub refusal: u32,
+    pub sounds: u32,
+}
+
+// Configures a station; a bad configuration is refused, and its station answers 16 to everything.
+#[no_mangle]
+pub extern "C" fn lahzavar_configure(
+    words: &mut StationWords,
+    sums: &mut StationSums,
+    address: u64,
+    modem: u64,
+    nid: u64,
+    first: u64,
+    last: u64,
+) -> Answered
+    ensures { λ r. ⌜ Configures (record { 0 = address }) (record { 0 = modem }) (record { 0 = nid }) (record { 0 = first; 1 = last }) (now (words .exit)) (now (sums .exit)) r ⌝ }
+{
+    storing::configure(
+        words,
+        sums,
+        StationAddress(address),
+        ModemAddress(modem),
+        Nid(nid),
+        Nmk(first, last),
+    )
+}
+
+// A frame was received: its reply stands from the output's first octet.
+#[no_mangle]
+pub extern "C" fn lahzavar_frame(
+    words: &mut StationWords,
+    sums: &mut StationSums,
+    octets: &[u8],
+    out: &mut [u8],
+) -> Answered
+    ensures { λ r. ⌜ Lent (calls.frame (now (octets .entry)) (length (now (out .entry)))) (now (words .entry)) (now (sums .entry)) (now (out .entry)) (now (out .exit)) (now (words .exit)) (now (sums .exit)) r ⌝ }
+{
+    frames::receive(words, sums, octets, out)
+}
+
+// A tick: the clock reads so much. The reports stand back to back from the first octet of the output.
+#[no_mangle]
+pub extern "C" fn lahzavar_tick(
+    words: &mut StationWords,
+    sums: &mut StationSums,
+    reading: u32,
+    out: &mut [u8],
+) -> Answered
+    ensures { λ r. ⌜ Lent (calls.tick reading (length (now (out .entry)))) (now (words .entry)) (now (sums .entry)) (now (out .entry)) (now (out .exit)) (now (words .exit)) (now (sums .exit)) r ⌝ }
+{
+    let station = words::unpack(words, sums);
+    let stepped = station::tick(station, reading, out);
+    storing::settle(words, sums, stepped)
+}
+
+// The control pilot is at a state, 0 to 5 for A to F, at a clock reading.
+#[no_mangle]
+pub extern "C" fn lahzavar_pilot(
+    words: &mut StationWords,
+    sums: &mut StationSums,
+    pilot: u32,
+    reading: u32,
+) -> Answered
+    ensures { λ r. ⌜ PilotLent pilot reading (now (words .entry)) (now (sums .entry)) [] [] (now (words .exit)) (now (sums .exit)) r ⌝ }
+{
+    if 5 < pilot {
+        return answers::no_pilot(words::config_of(words));
+    }
+    let station = words::unpack(words, sums);
+    let stepped = station::pilot(station, rules::pilot_of(answers::wide(pilot)), reading);
+    storing::settle(words, sums, stepped)
+}
+
+// Matching is terminated.
+#[no_mangle]
+pub extern "C" fn lahzavar_terminate(words: &mut StationWords, sums: &mut StationSums) -> Answered
+    ensures { λ r. ⌜ Lent calls.terminate (now (words .entry)) (now (sums .entry)) [] [] (now (words .exit)) (now (sums .exit)) r ⌝ }
+{
+    let station = words::unpack(words, sums);
+    let stepped = station::terminate(station);
+    storing::settle(words, sums, stepped)
+}
+
+// The link to the car that joins is up.
+#[no_mangle]
+pub extern "C" fn lahzavar_link_up(words: &mut StationWords, sums: &mut StationSums) -> Answered
+    ensures { λ r. ⌜ Lent calls.linkUp (now (words .entry)) (now (sums .entry)) [] [] (now (words .exit)) (now (sums .exit)) r ⌝ }
+{
+    let station = words::unpack(words, sums);
+    let stepped = station::link_up(station);
+    storing::settle(words, sums, stepped)
+}
+
+// Wipes a station, its key too: it answers 16 to everything.
+#[no_mangle]
+pub extern "C" fn lahzavar_wipe(words: &mut StationWords, sums: &mut StationSums)
+    ensures { λ _. ⌜ Wiped (now (words .exit)) (now (sums .exit)) ⌝ }
+{
+    words::wipe(words, sums);
+}
+
+// The service query: how many sounds a car's run has heard.
+#[no_mangle]
+pub extern "C" fn lahzavar_sounds_heard(words: &StationWords, sums: &StationSums, car: u64) -> Heard
+    ensures { λ r. ⌜ r ≡ heardAs (soundsHeard (stationOf (now (words .entry)) (now (sums .entry))) (record { 0 = car })) ⌝ }
+{
+    let station = words::unpack(words, sums);
+    answers::heard(rules::sounds_heard(station, CarAddress(car)))
+}
+
+// The state: 0 Unmatched, 1 Matching, 2 Joining, 3 Matched.
+#[no_mangle]
+pub extern "C" fn lahzavar_state(words: &StationWords) -> u32
+    ensures { λ r. ⌜ r ≡ stateNumber (stateOf (now (words .entry))) ⌝ }
+{
+    words::state_number(words::state_of(words))
+}
+
+// How many records are held.
+#[no_mangle]
+pub extern "C" fn lahzavar_records_held(words: &StationWords) -> u32
+    ensures { λ r. ⌜ ((sums : List ℕ) → r ≡ heldCount (recordsOf (now (words .entry)) sums)) ⌝ }
+{
+    words::held_count(words)
+}
+
+// The version.
+#[no_mangle]
+pub extern "C" fn lahzavar_version() -> u32
+    ensures { λ r. ⌜ r ≡ version ⌝ }
+{
+    VERSION
+}
+
+// How many words a station has.
+#[no_mangle]
+pub extern "C" fn lahzavar_words() -> u32
+    ensures { λ r. ⌜ r ≡ wordCount ⌝ }
+{
+    WORDS as u32
+}
+
+// How many sums a station has.
+#[no_mangle]
+pub extern "C" fn lahzavar_sums() -> u32
+    ensures { λ r. ⌜ r ≡ sumCount ⌝ }
+{
+    SUMS as u32
+}
+
+// The least output that a frame or a tick asks for.
+#[no_mangle]
+pub extern "C" fn lahzavar_least_output() -> u32
+    ensures { λ r. ⌜ r ≡ leastOutput ⌝ }
+{
+    rules::LEAST_OUTPUT as u32
+}

@@ -1,0 +1,46 @@
+// Storing what a call by value came to.
+use crate::Answered;
+use crate::answers;
+use messages::ModemAddress;
+use messages::Nid;
+use messages::Nmk;
+use messages::StationAddress;
+use rules::Stepped;
+use words::StationSums;
+use words::StationWords;
+ghost use Rattle.rules.specs.Invariant.{Invariant};
+ghost use Rattle.lahzavar.specs.Lent.{Configures};
+ghost use Rattle.lahzavar.specs.Storing.{Settles};
+
+// Stores the station of an accepted call; of a refused one, nothing.
+pub(crate) fn settle(words: &mut StationWords, sums: &mut StationSums, stepped: Stepped) -> Answered
+    requires { ⌜ Invariant (stepped .station) ⌝ }
+    ensures { λ r. ⌜ Settles stepped (now (words .entry)) (now (sums .entry)) (now (words .exit)) (now (sums .exit)) r ⌝ }
+{
+    let answer = stepped.answer;
+    let station = stepped.station;
+    let said = answers::answered(answer);
+    if said.refusal != 0 {
+        return said;
+    }
+    words::pack(station, words, sums);
+    said
+}
+
+// Stores the station that configuring gives.
+pub(crate) fn configure(
+    words: &mut StationWords,
+    sums: &mut StationSums,
+    address: StationAddress,
+    modem: ModemAddress,
+    nid: Nid,
+    nmk: Nmk,
+) -> Answered
+    ensures { λ r. ⌜ Configures address modem nid nmk (now (words .exit)) (now (sums .exit)) r ⌝ }
+{
+    let made = rules::configure(address, modem, nid, nmk);
+    let station = made.station;
+    let answer = made.answer;
+    words::pack(station, words, sums);
+    answers::answered(answer)
+}
