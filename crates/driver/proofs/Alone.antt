@@ -27,7 +27,7 @@ use Rattle.rules.specs.Invariant.{Invariant}
 use Rattle.rules.proofs.Station as T
 use Rattle.rules.proofs.Station.Laws as T′
 use Rattle.rules.proofs.Stepped.Laws as U′
-use Rattle.rules.proofs.Answer.Laws as N′
+use Rattle.ends.proofs.Answer.Laws as N′
 use Rattle.station.proofs.terminate as value
 use Rattle.driver.specs.InPlace.{InPlace}
 use Rattle.driver.proofs.terminate as here

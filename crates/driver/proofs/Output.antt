@@ -24,7 +24,7 @@ use Rattle.rules.specs.Calls.{Call}
 use Rattle.rules.specs.Invariant.{Invariant}
 use Rattle.rules.proofs.Station.Laws as T′
 use Rattle.rules.proofs.Stepped.Laws as U′
-use Rattle.rules.proofs.Answer.Laws as N′
+use Rattle.ends.proofs.Answer.Laws as N′
 use Rattle.driver.proofs.Walk.{mach, answered, lent, start, tail, copied, called, Passes, Entry, Asked, Given-back, Exit}
 
 -- the machine value of a lent slice

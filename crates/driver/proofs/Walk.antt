@@ -32,7 +32,7 @@ use denote.Triple.Walked.{says}
 use sound.WpLaws.{FmC}
 use Rattle.rules.specs.declared.Station.{Station}
 use Rattle.rules.specs.declared.Stepped.{Stepped}
-use Rattle.rules.specs.declared.Answer.{Answer}
+use Rattle.ends.specs.declared.Answer.{Answer}
 use Rattle.rules.specs.Calls.{Call}
 use Rattle.rules.specs.Answers.{Answers}
 use Rattle.rules.specs.Invariant.{Invariant}
@@ -40,8 +40,8 @@ use Rattle.rules.proofs.Station as T
 use Rattle.rules.proofs.Station.Laws as T′
 use Rattle.rules.proofs.Stepped as U
 use Rattle.rules.proofs.Stepped.Laws as U′
-use Rattle.rules.proofs.Answer as N
-use Rattle.rules.proofs.Answer.Laws as N′
+use Rattle.ends.proofs.Answer as N
+use Rattle.ends.proofs.Answer.Laws as N′
 use Rattle.driver.specs.InPlace.{InPlace}
 
 -- what the call by value promises is what the call in place promises

@@ -3,12 +3,12 @@ use Prim.Native.Nat.{ℕ}
 use mathlib.Core.Path.{_≡_}
 use mathlib.Core.List.{List}
 use Rattle.messages.specs.Octets.{splice}
-use Rattle.rules.specs.declared.Answer.{Answer}
+use Rattle.ends.specs.declared.Answer.{Answer}
 use Rattle.rules.specs.declared.Station.{Station}
 use Rattle.rules.specs.Calls.{Call}
-use Rattle.rules.specs.Outcomes.{framesOf, joined}
+use Rattle.ends.specs.Outcomes.{framesOf, joined}
 use Rattle.rules.specs.Rules.{step, outcome}
-use Rattle.rules.specs.Answers.{answerOf, summary}
+use Rattle.ends.specs.Answers.{answerOf, summary}
 use Rattle.rules.specs.Invariant.{Invariant}
 
 -- the whole promise of a call x: the lent station from s to t, the output from entry to exit, and the answer r

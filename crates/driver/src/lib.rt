@@ -1,6 +1,6 @@
 // A charging station's calls in place: each is lent the station and stores the one that the call by value returned.
+use ends::Answer;
 use messages::CarAddress;
-use rules::Answer;
 use rules::HeardAnswer;
 use rules::Pilot;
 use rules::Station;

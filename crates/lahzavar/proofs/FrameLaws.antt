@@ -1,7 +1,7 @@
 -- A frame on lent words and sums: what its parts come to, and the call's promise.
 use Prim.Native.Nat.{ℕ}
 use mathlib.Core.Path.{_≡_, refl, sym, ap, ap₂, _∙_, subst}
-use mathlib.Core.List.{List, [], _∷_, append-nil}
+use mathlib.Core.List.{List, [], _∷_}
 use denote.Enum.Declared.{tagOf}
 use lib.Dec.{ltb}
 use lib.ListN.{length, getD, set}
@@ -13,15 +13,21 @@ use Rattle.messages.specs.Answers.{numberOf}
 use Rattle.messages.specs.Octets.{splice}
 use Rattle.messages.specs.Reading.{Checked, no, yes, groupsOf, readRules}
 use Rattle.rules.specs.declared.Configuration.{Configuration}
-use Rattle.rules.specs.declared.Indication.the-variants.{Nothing}
+use Rattle.ends.specs.declared.Indication.the-variants.{Nothing}
 use Rattle.rules.specs.declared.Record.{Record}
 use Rattle.rules.specs.declared.State.{State}
 use Rattle.rules.specs.declared.State.the-variants.{Matching}
-use Rattle.rules.specs.Answers.{Summary}
+use Rattle.ends.specs.Answers.{answerOf, summary}
 use Rattle.rules.specs.Calls as calls
 use Rattle.rules.specs.Frames.{Kept, keeps, stateRule}
-use Rattle.rules.specs.Lists.{joins}
-use Rattle.rules.specs.Outcomes.{joined, andThen}
+use Rattle.ends.specs.Lists.{joins}
+use Rattle.ends.specs.Outcomes.{Outcome, framesOf, joined, andThen}
+use Rattle.ends.specs.Sending as sending
+use Rattle.ends.specs.Sending.{Writable}
+use Rattle.ends.proofs.SendLaws.{sends-writable}
+use Rattle.messages.specs.Table.{Message}
+use Rattle.messages.specs.Writing.{frame}
+use Rattle.ends.specs.declared.Answer.{Answer}
 use Rattle.rules.specs.Received.{RecordMessage, parmReq, Request, forRecord}
 use Rattle.rules.specs.Records.{fresh}
 use Rattle.rules.specs.Replies.{parmCnf}
@@ -49,7 +55,7 @@ use Rattle.words.specs.Words.{configOf, stateOf, recordsOf, stationOf, withReco
 use Rattle.words.proofs.Meant.{meant}
 use Rattle.lahzavar.specs.declared.Answered.{Answered}
 use Rattle.lahzavar.specs.Answers.{saidOf, answered}
-use Rattle.lahzavar.specs.Frames.{Sends, Comes, Stores}
+use Rattle.lahzavar.specs.Frames.{Comes, Stores}
 use Rattle.lahzavar.specs.Lent.{Lent}
 
 -- ---- what the parts come to
@@ -76,13 +82,14 @@ pub comes-silent : (w s out v t : List ℕ) (i : ℕ) (k : Record) (r : Answered
 unfolding splice joins
 comes-silent w s out v t i k r p q = comes-stored w s out out v t i k [] r p q refl
 
--- one frame of n octets
-pub one-sent : (f entry exit : List ℕ) (n : ℕ) (r : Answered) → r ≡ saidOf (yes (record { frames = 1; octets = n; indication = Nothing })) → n ≡ length f → exit ≡ splice 0 f entry → Sends f entry exit r
-unfolding joins
-one-sent f entry exit n r q e o = record {
-  answer = q ∙ ap (λ (k : ℕ). saidOf (yes (let y : Summary = record { frames = 1; octets = k; indication = Nothing } in y))) (e ∙ ap length (sym (append-nil f)));
-  octets = o ∙ ap (λ (ws : List ℕ). splice 0 ws entry) (sym (append-nil f));
-}
+-- a record stored at place i, and a message sent that can be written
+pub comes-sent : (w s entry exit v t : List ℕ) (i : ℕ) (k : Record) (m : Message) (a : Answer) (r : Answered) → Writable m (length entry) → stationOf v t ≡ withRecords (stationOf w s) (set (recordsOf w s) i k)
+    → sending.Sends m Nothing entry exit a → r ≡ saidOf (answerOf a) → Stores i k (frame m ∷ []) w s entry exit v t r
+comes-sent w s entry exit v t i k m a r h p e q =
+    let sent : sending.sending m Nothing (length entry) ≡ yes (record { frames = frame m ∷ []; indication = Nothing }) = sends-writable m entry h Nothing in
+    comes-stored w s entry exit v t i k (frame m ∷ []) r p
+    (q ∙ ap saidOf (e .answer ∙ ap summary sent))
+    (e .octets ∙ ap (λ (u : Outcome). splice 0 (joined (framesOf u)) entry) sent)
 
 -- ---- what a car's request comes to, by what is read of the words
 

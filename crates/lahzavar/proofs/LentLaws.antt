@@ -16,12 +16,13 @@ use Rattle.rules.specs.declared.Pilot.{Pilot}
 use Rattle.rules.specs.declared.Station.{Station}
 use Rattle.rules.specs.declared.Stepped.{Stepped}
 use Rattle.rules.specs.Answers as rules
-use Rattle.rules.specs.Answers.{Answers, answerOf}
+use Rattle.ends.specs.Answers.{answerOf}
+use Rattle.rules.specs.Answers.{Answers}
 use Rattle.rules.specs.Calls.{Call, pilot}
-use Rattle.rules.specs.Lists.{joins}
-use Rattle.rules.specs.Outcomes.{Outcome}
+use Rattle.ends.specs.Lists.{joins}
+use Rattle.ends.specs.Outcomes.{Outcome}
 use Rattle.rules.specs.Rules.{outcome}
-use Rattle.rules.proofs.Logic.{split}
+use Rattle.ends.proofs.Logic.{split}
 use Rattle.rules.proofs.Refusals.{refused-station}
 use Rattle.rules.specs.Numbers.{pilotOf}
 use Rattle.words.specs.Words.{stationOf}

@@ -22,20 +22,21 @@ use Rattle.rules.specs.declared.Record.{Record}
 use Rattle.rules.specs.declared.State.{State}
 use Rattle.rules.specs.declared.State.the-variants.{Unmatched, Matching, Joining, Matched}
 use Rattle.rules.specs.Calls.{Call, frame, tick, pilot, terminate, linkUp}
-use Rattle.rules.specs.Constants.{joiningTime, soundCount, recordCount, leastOutput}
+use Rattle.ends.specs.Constants.{joiningTime, soundCount}
+use Rattle.rules.specs.Constants.{recordCount, leastOutput}
 use Rattle.rules.specs.Events.{plugged, ended, pilotDone, linkRule}
 use Rattle.rules.specs.Frames.{Kept, Change, putBack, startRule, soundRule, profileRule, rspRule, atOwn, atRun, requested, parmRule, changeRule, matchRule, changed, confirmed, stateRule, admitted}
-use Rattle.rules.specs.Lists.{All, joins}
-use Rattle.rules.specs.Outcomes.{Outcome, framesOf, joined, andThen}
+use Rattle.ends.specs.Lists.{All, joins}
+use Rattle.ends.specs.Outcomes.{Outcome, framesOf, joined, andThen, outcomeOf}
 use Rattle.rules.specs.Received.{RecordMessage, parmReq, start, sound, profile, rsp, Request, forRecord, matchReq, Received, received}
 use Rattle.rules.specs.Records.{sameCar, sameRun, isHeld, holds, mine, freePlaces, freed, added, counted}
 use Rattle.rules.specs.Replies.{Reply, parmCnf, matchCnf, report, mean, reportOf, messageTo, frameTo, framesTo}
 use Rattle.rules.specs.Rules.{rule, outcome}
 use Rattle.rules.specs.Sounds.{isIn}
-use Rattle.rules.specs.Stations.{Shared, Inner, shared, inner, Done, outcomeOf}
+use Rattle.rules.specs.Stations.{Shared, Inner, shared, inner, Done}
 use Rattle.rules.specs.Ticks.{tickElapsed, tickPhase, repliesOf, tickReports, allReports, admissionDone, joiningDone, tickDone}
-use Rattle.rules.proofs.ListLaws.{all-only, joins-append}
-use Rattle.rules.proofs.Logic.{split, OnYes, on-check}
+use Rattle.ends.proofs.ListLaws.{all-only, joins-append}
+use Rattle.ends.proofs.Logic.{split, OnYes, on-check}
 use Rattle.rules.proofs.RuleLaws.{on-own, on-run}
 use Rattle.words.specs.Words.{stationOf}
 use Rattle.words.proofs.Meant.{sums-few}

@@ -1,9 +1,8 @@
 -- The answers as plain numbers.
 use Prim.Native.Nat.{ℕ, _+_, _*_, _^_, _%_}
 use Rattle.messages.specs.Reading.{Checked, no, yes}
-use Rattle.rules.specs.Outcomes.{Outcome}
-use Rattle.rules.specs.Numbers.{indicationNumber}
-use Rattle.rules.specs.Answers.{Summary, summary}
+use Rattle.ends.specs.Outcomes.{Outcome}
+use Rattle.ends.specs.Answers.{indicationNumber, Summary, summary}
 use Rattle.lahzavar.specs.declared.Answered.{Answered}
 use Rattle.lahzavar.specs.declared.Heard.{Heard}
 

@@ -1,27 +1,19 @@
 -- What the parts of the frame call on a lent station give.
 use Prim.Native.Nat.{ℕ}
-use mathlib.Core.Path.{_≡_}
-use mathlib.Core.List.{List, [], _∷_}
+use mathlib.Core.List.{List}
 use lib.ListN.{set}
 use Rattle.messages.specs.declared.CarAddress.{CarAddress}
-use Rattle.messages.specs.Octets.{splice}
 use Rattle.messages.specs.Reading.{Checked, yes}
-use Rattle.rules.specs.declared.Indication.the-variants.{Nothing}
+use Rattle.ends.specs.declared.Indication.the-variants.{Nothing}
 use Rattle.rules.specs.declared.Record.{Record}
 use Rattle.rules.specs.Frames.{Kept, stateRule}
-use Rattle.rules.specs.Outcomes.{joined}
+use Rattle.ends.specs.Outcomes.{next, outcomeOf}
 use Rattle.rules.specs.Received.{Request}
-use Rattle.rules.specs.Stations.{Done, shared, inner, build, done, next, outcomeOf}
+use Rattle.rules.specs.Stations.{Done, shared, inner, build, done}
 use Rattle.station.specs.Frames.{settled}
 use Rattle.words.specs.Words.{stationOf}
 use Rattle.lahzavar.specs.declared.Answered.{Answered}
-use Rattle.lahzavar.specs.Answers.{answered}
 use Rattle.lahzavar.specs.Lent.{Leaves}
-
--- the output from entry to exit and the answer r, where the one frame f is sent
-pub record Sends (f entry exit : List ℕ) (r : Answered) : Type 0 where
-  pub answer : r ≡ answered (yes (record { frames = f ∷ []; indication = Nothing }))
-  pub octets : exit ≡ splice 0 (joined (f ∷ [])) entry
 
 -- words and sums from w and s to v and t, the output from entry to exit, and the answer r, where a frame's rule gives x
 abbrev pub Comes : Checked Done → (w s entry exit v t : List ℕ) → Answered → Type 0

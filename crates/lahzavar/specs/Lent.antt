@@ -12,7 +12,7 @@ use Rattle.messages.specs.Reading.{Checked, no, yes, check}
 use Rattle.rules.specs.declared.Pilot.{Pilot}
 use Rattle.rules.specs.declared.Station.{Station}
 use Rattle.rules.specs.Calls.{Call, pilot}
-use Rattle.rules.specs.Outcomes.{Outcome, framesOf, joined}
+use Rattle.ends.specs.Outcomes.{Outcome, framesOf, joined}
 use Rattle.rules.specs.Rules.{configured, configuring, step, outcome}
 use Rattle.rules.specs.Numbers.{pilotOf}
 use Rattle.words.specs.Words.{stationOf}

@@ -3,7 +3,7 @@ use Prim.Native.Nat.{ℕ}
 use mathlib.Core.Path.{_≡_}
 use mathlib.Core.List.{List}
 use Rattle.rules.specs.declared.Stepped.{Stepped}
-use Rattle.rules.specs.Answers.{answerOf}
+use Rattle.ends.specs.Answers.{answerOf}
 use Rattle.words.specs.Words.{stationOf}
 use Rattle.lahzavar.specs.declared.Answered.{Answered}
 use Rattle.lahzavar.specs.Answers.{saidOf}

@@ -1,15 +1,16 @@
 // Answers as plain numbers.
 use crate::Answered;
 use crate::Heard;
+use ends::Answer;
 use messages::Refusal;
-use rules::Answer;
 use rules::Configuration;
 use rules::HeardAnswer;
 ghost use mathlib.Core.Path.{_≡_};
 ghost use Prim.Native.Nat.{_^_, _%_};
 ghost use Rattle.messages.specs.Answers.{numberOf};
 ghost use Rattle.messages.specs.Reading.{no, check};
-ghost use Rattle.rules.specs.Answers.{answerOf, heardOf};
+ghost use Rattle.ends.specs.Answers.{answerOf};
+ghost use Rattle.rules.specs.Answers.{heardOf};
 ghost use Rattle.lahzavar.specs.Answers.{saidOf, heardAs};
 
 // A wider number.
@@ -58,7 +59,7 @@ pub(crate) fn answered(answer: Answer) -> Answered
             indication: told,
         } => Answered {
             refusal: 0,
-            indication: rules::indication_number(told),
+            indication: ends::indication_number(told),
             frames: count(frames),
             octets: low(octets),
         },

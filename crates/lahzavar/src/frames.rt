@@ -2,12 +2,13 @@
 use crate::Answered;
 use crate::answers;
 use crate::storing;
+use ends::Answer;
+use ends::Indication;
 use messages::CarAddress;
 use messages::GroupValues;
 use messages::Message;
 use messages::Refusal;
 use messages::RunId;
-use messages::Written;
 use receiving::admission;
 use receiving::admission::Admission;
 use receiving::judge;
@@ -21,8 +22,6 @@ use records::find::Found;
 use records::report;
 use records::requests::Effect;
 use records::requests::Kept;
-use rules::Answer;
-use rules::Indication;
 use rules::Record;
 use rules::State;
 use words::StationSums;
@@ -39,27 +38,12 @@ ghost use Rattle.rules.specs.Received.{forRecord, parmReq};
 ghost use Rattle.rules.specs.Records.{owned, fresh};
 ghost use Rattle.rules.specs.Replies.{parmCnf, reportOf};
 ghost use Rattle.records.specs.Requests.{effectOf};
-ghost use Rattle.station.specs.Frames.{Writable, Ready, KeepsGood};
+ghost use Rattle.ends.specs.Sending.{Writable};
+ghost use Rattle.station.specs.Frames.{Ready, KeepsGood};
 ghost use Rattle.receiving.specs.Judge.{ownMessageOf};
 ghost use Rattle.words.specs.Words.{stationOf};
-ghost use Rattle.lahzavar.specs.Frames.{Sends, Takes, Puts, Stores};
+ghost use Rattle.lahzavar.specs.Frames.{Takes, Puts, Stores};
 ghost use Rattle.lahzavar.specs.Lent.{Lent};
-
-// Writes a message that can be written from the output's first octet.
-fn send(message: Message, values: GroupValues, out: &mut [u8]) -> Answered
-    requires { ⌜ Writable (messageOf message values) (length (now out)) ⌝ }
-    ensures { λ r. ⌜ Sends (writing.frame (messageOf message values)) (now (out .entry)) (now (out .exit)) r ⌝ }
-{
-    let written = messages::write(message, values, out);
-    let Written::Octets(octets) = written else {
-        return answers::refused(Refusal::OutputTooShort);
-    };
-    answers::answered(Answer::Done {
-        frames: 1,
-        octets: octets,
-        indication: Indication::Nothing,
-    })
-}
 
 // A record stored at place i, and one frame sent.
 fn sent(
@@ -75,7 +59,8 @@ fn sent(
     ensures { λ x. ⌜ Stores i r (writing.frame (messageOf message values) ∷ []) (now (words .entry)) (now (sums .entry)) (now (out .entry)) (now (out .exit)) (now (words .exit)) (now (sums .exit)) x ⌝ }
 {
     words::put_record(words, sums, i, r);
-    send(message, values, out)
+    let answer = ends::send(message, values, Indication::Nothing, out);
+    answers::answered(answer)
 }
 
 // PARM.REQ at place i: the record anew, and PARM.CNF.

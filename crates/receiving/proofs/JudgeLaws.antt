@@ -26,12 +26,12 @@ use Rattle.rules.specs.declared.State.the-variants.{Unmatched, Matching, Joinin
 use Rattle.rules.specs.declared.Station.{Station}
 use Rattle.rules.specs.Calls as calls
 use Rattle.rules.specs.Constants.{leastOutput}
-use Rattle.rules.specs.Outcomes.{andThen}
+use Rattle.ends.specs.Outcomes.{andThen}
 use Rattle.rules.specs.Received.{Request, forRecord, matchReq, Received, receivedIn, received, isForUs}
 use Rattle.rules.specs.Stations.{Done, shared, inner}
 use Rattle.rules.specs.Frames.{stateRule, admitted}
 use Rattle.rules.specs.Rules.{rule}
-use Rattle.rules.proofs.Logic.{OnYes}
+use Rattle.ends.proofs.Logic.{OnYes}
 use Rattle.rules.proofs.ReceivedLaws.{ReadAs, read-as}
 use Rattle.receiving.specs.declared.judge.Judged.{Judged}
 use Rattle.receiving.specs.declared.judge.Judged.the-variants as judged

@@ -13,7 +13,7 @@ use Rattle.messages.specs.Table.{Message}
 use Rattle.rules.specs.declared.Configuration.{Configuration}
 use Rattle.rules.specs.declared.State.{State}
 use Rattle.rules.specs.declared.State.the-variants.{Unmatched, Matching, Joining, Matched}
-use Rattle.rules.specs.Outcomes.{andThen}
+use Rattle.ends.specs.Outcomes.{andThen}
 use Rattle.rules.specs.Received.{RecordMessage, parmReq, start, sound, profile, rsp, Request, forRecord, matchReq, Received, receivedIn, received, isForUs}
 use Rattle.rules.specs.Frames.{admitted}
 use Rattle.records.specs.declared.requests.RunMessage.the-variants.{Start, Sound, Rsp}

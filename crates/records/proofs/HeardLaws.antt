@@ -10,9 +10,9 @@ use lib.Pow as pow
 use lib.Bits.{bitAnd, bitOr, and-block, and-mask, and-zero-r, or-add-and, or-shr, or-mod, or-zero-r}
 use lib.Count.{ones, ones-step, ones-cat}
 use borrow.Author.Tests.{eqb-true, eqb-false, eq-eqb, ne-eqb, ltb-true, ltb-false, lt-ltb, le-ltb}
-use Rattle.rules.specs.Constants.{soundCount}
+use Rattle.ends.specs.Constants.{soundCount}
 use Rattle.rules.specs.Sounds.{isIn, marked}
-use Rattle.rules.proofs.Logic.{split}
+use Rattle.ends.proofs.Logic.{split}
 use Rattle.rules.proofs.SoundLaws.{marked-or}
 use Rattle.records.specs.Heard.{marking}
 

@@ -7,7 +7,7 @@ use native.Mathlib.Numerals.{add-one}
 use lib.ListN.{length, take, drop, getD, set, length-set, length-map, drop-of-length-le}
 use lib.Seq.{take-suc-set, drop-set-lt, take-all, getD-set-other}
 use Rattle.rules.specs.Records.{added}
-use Rattle.rules.proofs.ListLaws.{drop-next}
+use Rattle.ends.proofs.ListLaws.{drop-next}
 
 -- ---- one element more
 

@@ -9,10 +9,10 @@ use lib.ListN.{length, drop, getD, set, drop-of-length-le}
 use types.Run.{OneOf, miss}
 use Rattle.messages.specs.declared.CarAddress.{CarAddress}
 use Rattle.rules.specs.declared.Record.{Record}
-use Rattle.rules.specs.Lists.{only}
+use Rattle.ends.specs.Lists.{only}
 use Rattle.rules.specs.Records.{isHeld, holds, mine, freePlaces, update, insert}
-use Rattle.rules.proofs.Logic.{split}
-use Rattle.rules.proofs.ListLaws.{drop-next}
+use Rattle.ends.proofs.Logic.{split}
+use Rattle.ends.proofs.ListLaws.{drop-next}
 use Rattle.records.specs.declared.find.Found.{Found}
 use Rattle.records.specs.declared.find.Found.the-variants.{Own, Free, Nothing}
 use Rattle.records.specs.Places.{ownFrom, freeFrom, orElse, orFree, placeOf}

@@ -5,7 +5,7 @@ use lib.ListN.{getD}
 use Rattle.rules.specs.declared.Phase.{Phase}
 use Rattle.rules.specs.declared.Phase.the-variants.{Asked, Sounding, Reported, Awaiting}
 use Rattle.rules.specs.declared.Record.{Record}
-use Rattle.rules.specs.Constants.{soundCount}
+use Rattle.ends.specs.Constants.{soundCount}
 use Rattle.rules.specs.Invariant.{InPhase, GoodRecord}
 
 -- in every phase at most all profiles are counted

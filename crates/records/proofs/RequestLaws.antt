@@ -15,7 +15,7 @@ use Rattle.messages.proofs.CheckLaws.{pass, fail}
 use Rattle.rules.specs.declared.Phase.{Phase}
 use Rattle.rules.specs.declared.Phase.the-variants.{Asked, Sounding, Reported, Awaiting}
 use Rattle.rules.specs.declared.Record.{Record}
-use Rattle.rules.specs.Constants.{soundCount, retryCount}
+use Rattle.ends.specs.Constants.{soundCount, retryCount}
 use Rattle.rules.specs.Records.{sameRun, inPhase, reported, withHeard, counted}
 use Rattle.rules.specs.Sounds.{isIn, marked}
 use Rattle.rules.specs.Replies.{reportOf}

@@ -10,11 +10,11 @@ use Rattle.rules.specs.declared.Configuration.{Configuration}
 use Rattle.rules.specs.declared.Phase.{Phase}
 use Rattle.rules.specs.declared.Phase.the-variants.{Asked, Sounding, Reported, Awaiting}
 use Rattle.rules.specs.declared.Record.{Record}
-use Rattle.rules.specs.Constants.{retryCount}
+use Rattle.ends.specs.Constants.{retryCount}
 use Rattle.rules.specs.Records.{isHeld}
 use Rattle.rules.specs.Replies.{Reply, reportOf, frameTo, framesTo}
 use Rattle.rules.specs.Ticks.{Ticked, nowFree, stillHeld, waits, reports, fires, tickPhase, recordOf, repliesOf, tickRecord, tickReports}
-use Rattle.rules.proofs.Logic.{split, clash}
+use Rattle.ends.proofs.Logic.{split, clash}
 use Rattle.records.specs.declared.timers.AfterTick.{AfterTick}
 use Rattle.records.specs.Timers.{anySent, tickReplies, afterTick, afterHeld, timeOf, withLeft, firedOf}
 

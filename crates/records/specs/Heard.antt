@@ -2,7 +2,7 @@
 use Prim.Native.Nat.{ℕ}
 use mathlib.Core.Bool.{not, cond, _&&_}
 use lib.Dec.{ltb}
-use Rattle.rules.specs.Constants.{soundCount}
+use Rattle.ends.specs.Constants.{soundCount}
 use Rattle.rules.specs.Sounds.{isIn, marked}
 
 -- a sound's count that is not in the set is marked; any other leaves the set as it is

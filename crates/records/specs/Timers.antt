@@ -6,7 +6,7 @@ use lib.Dec.{eqb}
 use Rattle.rules.specs.declared.Phase.{Phase}
 use Rattle.rules.specs.declared.Phase.the-variants.{Asked, Sounding, Reported, Awaiting}
 use Rattle.rules.specs.declared.Record.{Record}
-use Rattle.rules.specs.Constants.{retryCount}
+use Rattle.ends.specs.Constants.{retryCount}
 use Rattle.rules.specs.Records.{isHeld}
 use Rattle.rules.specs.Replies.{Reply}
 use Rattle.rules.specs.Ticks.{Ticked, nowFree, reports, tickPhase, recordOf, repliesOf, tickRecord}

@@ -1,5 +1,5 @@
 // The set of sound counts heard: count k is in it where its binary digit k is 1.
-use rules::SOUNDS;
+use ends::SOUNDS;
 ghost use mathlib.Core.Path.{_≡_};
 ghost use lib.Count.{ones};
 ghost use Rattle.rules.specs.Sounds.{isIn};

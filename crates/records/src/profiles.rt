@@ -6,7 +6,7 @@ use rules::Record;
 ghost use Prim.Native.Nat.{ℕ, _*_, _<_, _≤_};
 ghost use mathlib.Core.Path.{_≡_};
 ghost use lib.ListN.{getD};
-ghost use Rattle.rules.specs.Constants.{soundCount};
+ghost use Rattle.ends.specs.Constants.{soundCount};
 ghost use Rattle.rules.specs.Invariant.{GoodRecord};
 ghost use Rattle.rules.specs.Records as defined;
 

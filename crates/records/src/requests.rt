@@ -2,16 +2,16 @@
 use crate::changes;
 use crate::heard;
 use crate::profiles;
+use ends::RETRIES;
+use ends::SOUNDS;
 use messages::GroupValues;
 use messages::Refusal;
 use messages::RunId;
 use rules::AWAITING_TIME;
 use rules::Phase;
 use rules::REPORTED_TIME;
-use rules::RETRIES;
 use rules::Record;
 use rules::SOUNDING_TIME;
-use rules::SOUNDS;
 ghost use mathlib.Core.Path.{_≡_};
 ghost use mathlib.Core.List.{[], _∷_};
 ghost use Rattle.rules.specs.Frames.{startRule, soundRule, profileRule, rspRule, matchRule, atRun};

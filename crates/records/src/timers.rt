@@ -1,13 +1,13 @@
 // What a tick does to one record.
+use ends::RETRIES;
 use rules::Phase;
 use rules::REPORTED_TIME;
-use rules::RETRIES;
 use rules::Record;
 ghost use mathlib.Core.Path.{_≡_};
 ghost use mathlib.Core.Bool.{cond};
 ghost use Prim.Native.Nat.{_-_};
 ghost use lib.Dec.{eqb};
-ghost use Rattle.rules.specs.Constants.{retryCount};
+ghost use Rattle.ends.specs.Constants.{retryCount};
 ghost use Rattle.rules.specs.Records as records;
 ghost use Rattle.rules.specs.Records.{inPhase, owned};
 ghost use Rattle.rules.specs.Ticks as ticks;
@@ -39,7 +39,7 @@ fn tick_held(r: Record, elapsed: u32) -> AfterTick
     ensures { λ t. ⌜ t ≡ afterHeld r (tickPhase elapsed r (r .phase)) ⌝ }
 {
     let phase = r.phase;
-    let left = left_after(time_of(phase), elapsed);
+    let left = ends::left_after(time_of(phase), elapsed);
     if left == 0 {
         fired(r)
     } else {
@@ -85,13 +85,6 @@ fn fired(r: Record) -> AfterTick
         Phase::Reported { left: _, retries } => next_report(r, retries),
         Phase::Awaiting(_) => free(r),
     }
-}
-
-// What is left of a time after so many milliseconds: the excess is dropped.
-pub fn left_after(time: u32, elapsed: u32) -> u32
-    ensures { λ left. ⌜ left ≡ time - elapsed ⌝ }
-{
-    if time <= elapsed { 0 } else { time - elapsed }
 }
 
 // Sounding's time has fired: freed if no profile is counted, else the report.

@@ -14,15 +14,15 @@ use Rattle.rules.specs.declared.State.{State}
 use Rattle.rules.specs.declared.State.the-variants.{Unmatched, Matching, Joining, Matched}
 use Rattle.rules.specs.declared.Station.{Station}
 use Rattle.rules.specs.Calls.{Call, frame, tick, pilot, terminate, linkUp}
-use Rattle.rules.specs.Outcomes.{andThen}
-use Rattle.rules.specs.Stations.{Shared, Inner, Done, next}
+use Rattle.ends.specs.Outcomes.{andThen, next}
+use Rattle.rules.specs.Stations.{Shared, Inner, Done}
 use Rattle.rules.specs.Records.{sameCar, sameRun, mine, freePlaces, noneHeld, freed}
 use Rattle.rules.specs.Received.{RecordMessage, Request, forRecord, matchReq, Received, received}
 use Rattle.rules.specs.Events.{plugged, ended, pilotDone, linkRule}
 use Rattle.rules.specs.Frames.{Change, changeRule, matchRule, put, changed, confirmed, stateRule, admitted, frameRule}
 use Rattle.rules.specs.Ticks.{tickElapsed, tickRecord, allReports, admissionDone, joiningDone, tickDone}
 use Rattle.rules.specs.Rules.{rule, step, after}
-use Rattle.rules.proofs.Logic.{OnYes, on-check}
+use Rattle.ends.proofs.Logic.{OnYes, on-check}
 use Rattle.rules.proofs.ReceivedLaws.{ReadAs, read-as}
 
 -- what a frame's request must meet, where it is not refused before a record is looked at
@@ -39,7 +39,7 @@ module _ (P : List Record → Type 0) (F : Request → Type 0)
     (ticks : (e : ℕ) (rs : List Record) → P rs → P (map (tickRecord e) rs))
     (frees : (rs : List Record) → P rs → P (map freed rs)) where
   abbrev Keeps : Done → Type 0
-  Keeps d = P (d .inner .records)
+  Keeps d = P (d .after .records)
 
   of-change : (o : Configuration) (st : State) (rs : List Record) (c : CarAddress) (w : Checked Change) → OnYes (λ (x : Change). P (put c (x .place) (x .kept) rs)) w
       → OnYes Keeps (andThen w (λ (x : Change). yes (changed o st rs c x)))

@@ -8,18 +8,19 @@ use Rattle.messages.specs.declared.Nid.{Nid}
 use Rattle.messages.specs.declared.Nmk.{Nmk}
 use Rattle.messages.specs.declared.Refusal.the-variants.{BadConfiguration}
 use Rattle.messages.specs.declared.StationAddress.{StationAddress}
-use Rattle.rules.specs.declared.Answer.{Answer}
-use Rattle.rules.specs.declared.Answer.the-variants.{Refused, Done}
-use Rattle.rules.specs.declared.Indication.the-variants.{Nothing}
+use Rattle.ends.specs.declared.Answer.{Answer}
+use Rattle.ends.specs.declared.Answer.the-variants.{Refused, Done}
+use Rattle.ends.specs.declared.Indication.the-variants.{Nothing}
 use Rattle.rules.specs.declared.Pilot.the-variants.{A}
 use Rattle.rules.specs.declared.Record.{Record}
 use Rattle.rules.specs.declared.State.the-variants.{Unmatched}
 use Rattle.rules.specs.declared.Station.{Station}
 use Rattle.rules.specs.Constants.{recordCount}
-use Rattle.rules.specs.Lists.{joins}
+use Rattle.ends.specs.Lists.{joins}
 use Rattle.rules.specs.Rules.{isGood, freeRecord, configured, configuring}
 use Rattle.rules.specs.Invariant.{Invariant}
-use Rattle.rules.specs.Answers.{answerOf, summary, Configures}
+use Rattle.ends.specs.Answers.{answerOf, summary}
+use Rattle.rules.specs.Answers.{Configures}
 use Rattle.rules.proofs.InvariantKept.{configured-keeps}
 
 module _ (a : StationAddress) (m : ModemAddress) (nid : Nid) (nmk : Nmk) (g : Bool) (rs : List Record) (e : g ≡ isGood a m nid) (r : rs ≡ replicate recordCount freeRecord) where

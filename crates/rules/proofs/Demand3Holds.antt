@@ -10,12 +10,12 @@ use Rattle.messages.specs.declared.Nid.{Nid}
 use Rattle.messages.specs.declared.Nmk.{Nmk}
 use Rattle.messages.specs.declared.StationAddress.{StationAddress}
 use Rattle.rules.specs.Constants.{recordCount}
-use Rattle.rules.specs.Lists.{only, All}
+use Rattle.ends.specs.Lists.{only, All}
 use Rattle.rules.specs.Calls.{Call}
 use Rattle.rules.specs.Records.{mine}
 use Rattle.rules.specs.Rules.{freeRecord, configured, after}
 use Rattle.rules.specs.Demand3.{Demand3}
-use Rattle.rules.proofs.ListLaws.{all-replicate}
+use Rattle.ends.proofs.ListLaws.{all-replicate}
 use Rattle.rules.proofs.RecordLaws.{holds-free, freed-free}
 use Rattle.rules.proofs.ReplyLaws.{Unicast}
 use Rattle.rules.proofs.Reached.{unicast-freed, one-after}

@@ -3,20 +3,21 @@ use mathlib.Core.Path.{refl}
 use Rattle.messages.specs.Octets.{value, bytes, lowValue, lowBytes}
 use Rattle.messages.specs.Reading.{kindRules, readRules}
 use Rattle.messages.specs.Writing as writing
-use Rattle.rules.specs.Lists.{only, joins}
+use Rattle.ends.specs.Lists.{only, joins}
 use Rattle.rules.specs.Records.{sameCar, sameRun, isHeld, holds, owned, freed, update, insert, noSums, fresh, inPhase, withHeard, added, counted}
 use Rattle.rules.specs.Sounds.{isIn, marked}
 use Rattle.rules.specs.Replies.{mean, reportOf, frameTo}
 use Rattle.rules.specs.Received.{received}
 use Rattle.rules.specs.Events.{plugged, lost, pilotDone, linkRule}
 use Rattle.rules.specs.Frames.{startRule, soundRule, profileRule, rspRule, isAwaiting, requested, parmRule, changeRule, matchRule, put, stateRule, admitted}
-use Rattle.rules.specs.Ticks.{tickElapsed, tickPhase, recordOf, repliesOf, tickRecord, tickReports, admissionDone, joiningDone, tickDone}
+use Rattle.ends.specs.Clock.{tickTime}
+use Rattle.rules.specs.Ticks.{tickPhase, recordOf, repliesOf, tickRecord, tickReports, admissionDone, joiningDone, tickDone}
 use Rattle.rules.specs.Rules.{freeRecord, configured, rule, takesReading, takesPilot, sharedStep, step, outcome}
 use Rattle.rules.specs.Demand3.{named, isCar, isOther, accepted, isTen, isRead, isKind, isTo, replies, isPlugIn, isEnd, ends}
 use Rattle.rules.specs.Exceptions.{Exceptions}
 
 pub exceptions-hold : Exceptions
-unfolding value bytes lowValue lowBytes kindRules readRules writing.frame only joins sameCar sameRun isHeld holds owned freed update insert noSums fresh inPhase withHeard added counted isIn marked mean reportOf frameTo received plugged lost pilotDone linkRule startRule soundRule profileRule rspRule isAwaiting requested parmRule changeRule matchRule put stateRule admitted tickElapsed tickPhase recordOf repliesOf tickRecord tickReports admissionDone joiningDone tickDone freeRecord rule takesReading takesPilot sharedStep step outcome configured named isCar isOther accepted isTen isRead isKind isTo replies isPlugIn isEnd ends
+unfolding value bytes lowValue lowBytes kindRules readRules writing.frame only joins sameCar sameRun isHeld holds owned freed update insert noSums fresh inPhase withHeard added counted isIn marked mean reportOf frameTo received plugged lost pilotDone linkRule startRule soundRule profileRule rspRule isAwaiting requested parmRule changeRule matchRule put stateRule admitted tickTime tickPhase recordOf repliesOf tickRecord tickReports admissionDone joiningDone tickDone freeRecord rule takesReading takesPilot sharedStep step outcome configured named isCar isOther accepted isTen isRead isKind isTo replies isPlugIn isEnd ends
 exceptions-hold = record {
   begins = refl;
   goes-on = refl;

@@ -12,7 +12,7 @@ use Rattle.rules.specs.declared.Station.{Station}
 use Rattle.rules.specs.Records.{holds, mine}
 use Rattle.rules.specs.Frames.{atOwn}
 use Rattle.rules.specs.Rules.{heardIn, soundsHeard}
-use Rattle.rules.proofs.ListLaws.{drop-next, only-none, only-yes, only-no}
+use Rattle.ends.proofs.ListLaws.{drop-next, only-none, only-yes, only-no}
 
 -- the length of an array, passed
 pub passed : {A : Type 0} (l : List A) (n i : ℕ) → length l ≡ n → n ≤ i → length l ≤ i

@@ -22,8 +22,9 @@ use Rattle.rules.specs.declared.Phase.{Phase}
 use Rattle.rules.specs.declared.Phase.the-variants.{Asked, Sounding, Reported, Awaiting}
 use Rattle.rules.specs.declared.Record.{Record}
 use Rattle.rules.specs.declared.Station.{Station}
-use Rattle.rules.specs.Constants.{soundCount, reportedTime, retryCount, recordCount}
-use Rattle.rules.specs.Lists.{All}
+use Rattle.ends.specs.Constants.{soundCount, retryCount}
+use Rattle.rules.specs.Constants.{reportedTime, recordCount}
+use Rattle.ends.specs.Lists.{All}
 use Rattle.rules.specs.Calls.{Call, frame, tick, pilot, terminate, linkUp}
 use Rattle.rules.specs.Stations.{Shared, shared, inner}
 use Rattle.rules.specs.Records.{isHeld, holds, mine, freePlaces, owned, freed, noSums, fresh, inPhase, withHeard, added, counted}
@@ -33,8 +34,8 @@ use Rattle.rules.specs.Frames.{Kept, Change, putBack, startRule, soundRu
 use Rattle.rules.specs.Ticks.{Ticked, nowFree, stillHeld, tickElapsed, tickPhase, recordOf, tickRecord}
 use Rattle.rules.specs.Rules.{freeRecord, configured, takesReading, takesPilot, sharedStep, step}
 use Rattle.rules.specs.Invariant.{Within, InPhase, GoodRecord, GoodConfiguration, Invariant, OctetCall}
-use Rattle.rules.proofs.Logic.{split, clash, OnYes, on-check}
-use Rattle.rules.proofs.ListLaws.{all-map, all-only, all-replicate}
+use Rattle.ends.proofs.Logic.{split, clash, OnYes, on-check}
+use Rattle.ends.proofs.ListLaws.{all-map, all-only, all-replicate}
 use Rattle.rules.proofs.RecordLaws.{freed-free}
 use Rattle.rules.proofs.RuleLaws.{on-own, on-run, on-back}
 use Rattle.rules.proofs.ReceivedLaws.{OctetRequest, admitted-octets}

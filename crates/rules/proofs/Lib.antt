@@ -1,7 +1,5 @@
 pub mod CasesHold
 pub mod ExceptionsHold
-pub mod Logic
-pub mod ListLaws
 pub mod RecordLaws
 pub mod RuleLaws
 pub mod ReadingLaws

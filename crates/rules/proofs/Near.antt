@@ -10,12 +10,13 @@ use Rattle.messages.specs.Reading.{Checked, no}
 use Rattle.rules.specs.declared.Record.{Record}
 use Rattle.rules.specs.declared.State.{State}
 use Rattle.rules.specs.declared.State.the-variants.{Unmatched, Matching}
-use Rattle.rules.specs.Stations.{Inner, Done, next, outcomeOf}
+use Rattle.ends.specs.Outcomes.{next, outcomeOf}
+use Rattle.rules.specs.Stations.{Inner, Done}
 use Rattle.rules.specs.Records.{sameCar, mine, freePlaces, noneHeld, freed}
 use Rattle.rules.specs.Frames.{Place, ownPlace, freePlace, put}
 use Rattle.rules.specs.Ticks.{tickRecord}
 use Rattle.rules.specs.Demand3.{repliesIn}
-use Rattle.rules.proofs.Logic.{split}
+use Rattle.ends.proofs.Logic.{split}
 use Rattle.rules.proofs.RecordLaws.{same-eq, Ready, takes, same-put, mine-put-other, length-put, mine-freed, same-tick, none-tick, mine-none, free-all}
 
 -- car c has the same records in both lists, and the second holds no other car's

@@ -11,16 +11,16 @@ use Rattle.rules.specs.declared.Configuration.{Configuration}
 use Rattle.rules.specs.declared.Record.{Record}
 use Rattle.rules.specs.declared.State.{State}
 use Rattle.rules.specs.declared.State.the-variants.{Unmatched}
-use Rattle.rules.specs.declared.Indication.{Indication}
-use Rattle.rules.specs.declared.Indication.the-variants.{Nothing}
-use Rattle.rules.specs.Lists.{only, All, joins}
-use Rattle.rules.specs.Outcomes.{andThen}
-use Rattle.rules.specs.Stations.{Inner, done, next, outcomeOf}
+use Rattle.ends.specs.declared.Indication.{Indication}
+use Rattle.ends.specs.declared.Indication.the-variants.{Nothing}
+use Rattle.ends.specs.Lists.{only, All, joins}
+use Rattle.ends.specs.Outcomes.{andThen, next, outcomeOf}
+use Rattle.rules.specs.Stations.{Inner, done}
 use Rattle.rules.specs.Records.{mine, noneHeld}
 use Rattle.rules.specs.Events.{ended, pilotDone, linkRule}
 use Rattle.rules.specs.Ticks.{tickRecord, allReports, admissionDone, tickDone}
 use Rattle.rules.specs.Demand3.{accepted, isTo}
-use Rattle.rules.proofs.Logic.{clash, check-both}
+use Rattle.ends.proofs.Logic.{clash, check-both}
 use Rattle.rules.proofs.RecordLaws.{none-mine, none-tick}
 use Rattle.rules.proofs.ReplyLaws.{Unicast, sent-tick}
 use Rattle.rules.proofs.Near.{Alone, Ahead, both, late, out, Near, BothGet, stays, alone-none, alone-tick, alone-freed}

@@ -12,15 +12,15 @@ use Rattle.rules.specs.declared.Configuration.{Configuration}
 use Rattle.rules.specs.declared.Record.{Record}
 use Rattle.rules.specs.declared.State.{State}
 use Rattle.rules.specs.declared.State.the-variants.{Unmatched, Matching, Joining, Matched}
-use Rattle.rules.specs.Constants.{joiningTime}
-use Rattle.rules.specs.Outcomes.{andThen}
-use Rattle.rules.specs.Stations.{Inner, Done, next, outcomeOf}
+use Rattle.ends.specs.Constants.{joiningTime}
+use Rattle.ends.specs.Outcomes.{andThen, next, outcomeOf}
+use Rattle.rules.specs.Stations.{Inner, Done}
 use Rattle.rules.specs.Records.{sameCar, sameRun, mine, freePlaces, freed}
 use Rattle.rules.specs.Received.{RecordMessage, Request, forRecord, matchReq}
 use Rattle.rules.specs.Frames.{Change, changeRule, matchRule, changed, confirmed, stateRule}
 use Rattle.rules.specs.Demand3.{accepted, isTen, repliesIn}
-use Rattle.rules.proofs.Logic.{clash, OnYes}
-use Rattle.rules.proofs.ListLaws.{only-none}
+use Rattle.ends.proofs.Logic.{clash, OnYes}
+use Rattle.ends.proofs.ListLaws.{only-none}
 use Rattle.rules.proofs.RecordLaws.{Ready, takes, mine-freed}
 use Rattle.rules.proofs.RuleLaws.{isAsk, refusedTen, change-ready, change-same, change-closed, match-none}
 use Rattle.rules.proofs.ReceivedLaws.{isMatch, asksIn}

@@ -11,10 +11,10 @@ use Rattle.messages.specs.Reading.{Checked, no, yes, readRules}
 use Rattle.messages.proofs.LayoutLaws.{and-left, and-right}
 use Rattle.rules.specs.declared.Configuration.{Configuration}
 use Rattle.rules.specs.declared.Station.{Station}
-use Rattle.rules.specs.Lists.{only, All}
+use Rattle.ends.specs.Lists.{only, All}
 use Rattle.rules.specs.Calls.{Call, frame, tick, pilot, terminate, linkUp}
-use Rattle.rules.specs.Outcomes.{Outcome}
-use Rattle.rules.specs.Stations.{Shared, Inner, shared, inner, build, next, outcomeOf}
+use Rattle.ends.specs.Outcomes.{Outcome, next, outcomeOf}
+use Rattle.rules.specs.Stations.{Shared, Inner, shared, inner, build}
 use Rattle.rules.specs.Records.{sameCar}
 use Rattle.rules.specs.Received.{Received, received}
 use Rattle.rules.specs.Events.{plugged}
@@ -22,8 +22,8 @@ use Rattle.rules.specs.Frames.{stateRule, admitted, frameRule}
 use Rattle.rules.specs.Ticks.{tickElapsed}
 use Rattle.rules.specs.Rules.{rule, sharedStep, step, outcome, after}
 use Rattle.rules.specs.Demand3.{named, isCar, isOther, without, accepted, isTen, isKind, repliesIn, replies, isPlugIn, isEnd, ends, Lasts, begun, further, matched, SameFor, Undisturbed}
-use Rattle.rules.proofs.Logic.{split, clash, or-left, or-right, OnYes}
-use Rattle.rules.proofs.ListLaws.{only-yes, only-no}
+use Rattle.ends.proofs.Logic.{split, clash, or-left, or-right, OnYes}
+use Rattle.ends.proofs.ListLaws.{only-yes, only-no}
 use Rattle.rules.proofs.RecordLaws.{same-eq}
 use Rattle.rules.proofs.ReceivedLaws.{isMatch, asksIn, ReadAs, read-as}
 use Rattle.rules.proofs.ReplyLaws.{Unicast}

@@ -4,13 +4,13 @@ use mathlib.Core.Bool.{Bool, true}
 use mathlib.Core.List.{List, [], _∷_, _++_}
 use Rattle.messages.specs.declared.CarAddress.{CarAddress}
 use Rattle.rules.specs.declared.Station.{Station}
-use Rattle.rules.specs.Lists.{only, Permuted}
+use Rattle.ends.specs.Lists.{only, Permuted}
 use Rattle.rules.specs.Calls.{Call, frame, tick, pilot, terminate, linkUp}
-use Rattle.rules.specs.Outcomes.{Outcome}
+use Rattle.ends.specs.Outcomes.{Outcome}
 use Rattle.rules.specs.Rules.{step, outcome, after}
 use Rattle.rules.specs.Demand3.{named, isCar, isFrame, Event, events, moves, AllMove, Reordered, Alike, AllAlike, OrderFree}
-use Rattle.rules.proofs.Logic.{split, clash, no-cons}
-use Rattle.rules.proofs.ListLaws.{only-none, only-yes, only-no, only-append, only-skip, only-permuted}
+use Rattle.ends.proofs.Logic.{split, clash, no-cons}
+use Rattle.ends.proofs.ListLaws.{only-none, only-yes, only-no, only-append, only-skip, only-permuted}
 use Rattle.rules.proofs.Places.{Like, like-refl, like-trans, follows-all}
 use Rattle.rules.proofs.Swap.{Apart, Swapped, swap}
 use Rattle.rules.proofs.Taken.{nameless, Taken, taken, none-left}

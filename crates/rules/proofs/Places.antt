@@ -13,11 +13,11 @@ use Rattle.rules.specs.declared.Record.{Record}
 use Rattle.rules.specs.declared.State.{State}
 use Rattle.rules.specs.declared.State.the-variants.{Unmatched, Matching, Joining, Matched}
 use Rattle.rules.specs.declared.Station.{Station}
-use Rattle.rules.specs.Constants.{joiningTime}
-use Rattle.rules.specs.Lists.{only, Permuted}
+use Rattle.ends.specs.Constants.{joiningTime}
+use Rattle.ends.specs.Lists.{only, Permuted}
 use Rattle.rules.specs.Calls.{Call, frame, tick, pilot, terminate, linkUp}
-use Rattle.rules.specs.Outcomes.{andThen}
-use Rattle.rules.specs.Stations.{Shared, Inner, shared, inner, build, Done, next, outcomeOf}
+use Rattle.ends.specs.Outcomes.{andThen, next, outcomeOf}
+use Rattle.rules.specs.Stations.{Shared, Inner, shared, inner, build, Done}
 use Rattle.rules.specs.Records.{sameCar, sameRun, isHeld, mine, freePlaces, noneHeld, freed}
 use Rattle.rules.specs.Received.{Request, forRecord, matchReq, Received, received}
 use Rattle.rules.specs.Events.{plugged, ended, pilotDone, linkRule}
@@ -25,8 +25,8 @@ use Rattle.rules.specs.Frames.{Place, Change, changeRule, matchRule, put
 use Rattle.rules.specs.Ticks.{tickElapsed, tickRecord, tickReports, allReports, admissionDone, joiningDone, tickDone}
 use Rattle.rules.specs.Rules.{rule, step, outcome, after}
 use Rattle.rules.specs.Demand3.{events, Alike, AllAlike}
-use Rattle.rules.proofs.Logic.{split, OnYes, check-both}
-use Rattle.rules.proofs.ListLaws.{joins-permuted, joins-only}
+use Rattle.ends.proofs.Logic.{split, OnYes, check-both}
+use Rattle.ends.proofs.ListLaws.{joins-permuted, joins-only}
 use Rattle.rules.proofs.RecordLaws.{same-eq, Ready, ready-takes, same-put, mine-put-other, length-put, mine-freed, same-tick, same-held, same-none, same-free}
 use Rattle.rules.proofs.RuleLaws.{change-ready}
 use Rattle.rules.proofs.ReplyLaws.{reports-free}

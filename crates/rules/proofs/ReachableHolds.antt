@@ -19,16 +19,17 @@ use Rattle.rules.specs.declared.State.the-variants.{Unmatched, Matching,
 use Rattle.rules.specs.declared.Station.{Station}
 use Rattle.rules.specs.Constants.{recordCount}
 use Rattle.rules.specs.Calls.{Call, frame, tick, pilot, terminate, linkUp}
-use Rattle.rules.specs.Outcomes.{andThen}
-use Rattle.rules.specs.Stations.{Shared, Inner, shared, inner, Done, next}
+use Rattle.ends.specs.Outcomes.{andThen, next}
+use Rattle.rules.specs.Stations.{Shared, Inner, shared, inner, Done}
 use Rattle.rules.specs.Records.{sameCar, sameRun, mine, freePlaces, noneHeld, freed}
 use Rattle.rules.specs.Received.{Request, forRecord, matchReq, Received, received}
 use Rattle.rules.specs.Events.{plugged, ended, pilotDone, linkRule}
 use Rattle.rules.specs.Frames.{Change, changeRule, matchRule, changed, confirmed, stateRule, admitted, frameRule}
+use Rattle.ends.specs.Clock.{tickTime}
 use Rattle.rules.specs.Ticks.{tickElapsed, tickRecord, allReports, admissionDone, joiningDone, tickDone}
 use Rattle.rules.specs.Rules.{configured, rule, takesReading, takesPilot, sharedStep, step, after}
 use Rattle.rules.specs.Reachable.{HeldIn, Reachable}
-use Rattle.rules.proofs.Logic.{clash, OnYes, on-check}
+use Rattle.ends.proofs.Logic.{clash, OnYes, on-check}
 use Rattle.rules.proofs.RecordLaws.{mine-freed, mine-none}
 use Rattle.rules.proofs.Reached.{one-next}
 use Rattle.rules.proofs.Always.{after-all}
@@ -38,7 +39,7 @@ use Rattle.rules.proofs.Demand3Holds.{one-record, mine-free}
 -- ---- records are held in Matching only
 
 abbrev Held : Done → Type 0
-Held d = HeldIn (d .inner .state) (d .inner .records)
+Held d = HeldIn (d .after .state) (d .after .records)
 
 none-freed : (rs : List Record) → noneHeld (map freed rs) ≡ true
 none-freed rs = mine-none (map freed rs) (λ c. mine-freed c rs)
@@ -111,7 +112,7 @@ held-rule o i linkUp h = on-check Held (o .config .good) 16 (linkRule (i .state)
 -- ---- where the station is Unmatched
 
 abbrev Stays : Done → Type 0
-Stays d = d .inner .state ≡ Unmatched
+Stays d = d .after .state ≡ Unmatched
 
 unmatched-frame : (o : Configuration) (rs : List Record) (w : Checked Received) → OnYes Stays (frameRule o (record { state = Unmatched; records = rs }) w)
 unfolding stateRule
@@ -173,7 +174,7 @@ unplugged-next o i linkUp h p = stays-unmatched o i linkUp p (h p)
 
 -- a bad configuration refuses everything with 16
 pub bad-refuses : (o : Shared) (i : Inner) (x : Call) → o .config .good ≡ false → rule o i x ≡ no 16
-unfolding rule admitted tickElapsed
+unfolding rule admitted tickTime
 bad-refuses o i (frame s room) g = rw g
 bad-refuses o i (tick t room) g = rw g
 bad-refuses o i (pilot p t) g = rw g

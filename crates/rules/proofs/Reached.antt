@@ -10,15 +10,16 @@ use Rattle.messages.specs.Table.{isUnicast}
 use Rattle.messages.specs.Reading.{Checked, no, yes}
 use Rattle.rules.specs.declared.Record.{Record}
 use Rattle.rules.specs.declared.Station.{Station}
-use Rattle.rules.specs.Lists.{All}
+use Rattle.ends.specs.Lists.{All}
 use Rattle.rules.specs.Calls.{Call}
-use Rattle.rules.specs.Stations.{Shared, Inner, shared, inner, next}
+use Rattle.ends.specs.Outcomes.{next}
+use Rattle.rules.specs.Stations.{Shared, Inner, shared, inner}
 use Rattle.rules.specs.Records.{sameCar, isHeld, holds, mine, freePlaces, owned, freed, update, insert}
 use Rattle.rules.specs.Frames.{Place, ownPlace, freePlace, Change, changeRule, put}
 use Rattle.rules.specs.Ticks.{Ticked, nowFree, stillHeld, tickPhase, recordOf, tickRecord}
 use Rattle.rules.specs.Rules.{rule, step, after}
-use Rattle.rules.proofs.Logic.{split, clash, OnYes}
-use Rattle.rules.proofs.ListLaws.{only-parts, all-map}
+use Rattle.ends.proofs.Logic.{split, clash, OnYes}
+use Rattle.ends.proofs.ListLaws.{only-parts, all-map}
 use Rattle.rules.proofs.RecordLaws.{same-eq, owned-car, freed-free, Ready, ownThen, mine-put, mine-put-other, length-put, mine-freed, mine-tick}
 use Rattle.rules.proofs.RuleLaws.{change-ready}
 use Rattle.rules.proofs.ReplyLaws.{Unicast}

@@ -8,7 +8,7 @@ use Rattle.messages.specs.Layout.{Field, is, number, low, octets, reserved, Val
 use Rattle.messages.specs.Table.{Kind, slacParmReq, slacParmCnf, startAttenCharInd, attenCharInd, attenCharRsp, mnbcSoundInd, slacMatchReq, slacMatchCnf, attenProfileInd, groupCount, head, payload, Message, addressed}
 use Rattle.messages.specs.Reading.{Checked, no, yes, noGroups, groupsIn, kindRules, payloadRules, frameRules, readRules}
 use Rattle.messages.proofs.OctetLaws.{octets-drop}
-use Rattle.rules.proofs.Logic.{OnYes, on-check}
+use Rattle.ends.proofs.Logic.{OnYes, on-check}
 
 abbrev OctetGroups : Message → Type 0
 OctetGroups m = Octets (groupsIn (m .kind) (m .dst) (m .src) (m .values))

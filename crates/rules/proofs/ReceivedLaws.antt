@@ -16,7 +16,7 @@ use Rattle.rules.specs.Constants.{leastOutput}
 use Rattle.rules.specs.Received.{parmReq, start, sound, profile, rsp, Request, forRecord, matchReq, Received, receivedAs, receivedIn, received, isForUs}
 use Rattle.rules.specs.Frames.{admitted}
 use Rattle.rules.specs.Demand3.{isRead}
-use Rattle.rules.proofs.Logic.{OnYes, on-check}
+use Rattle.ends.proofs.Logic.{OnYes, on-check}
 use Rattle.rules.proofs.ReadingLaws.{read-groups}
 use Rattle.rules.proofs.RuleLaws.{isAsk}
 

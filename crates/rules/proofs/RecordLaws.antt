@@ -9,12 +9,12 @@ use lib.ListN.{length}
 use borrow.Author.Tests.{eqb-true, eq-eqb}
 use Rattle.messages.specs.declared.CarAddress.{CarAddress}
 use Rattle.rules.specs.declared.Record.{Record}
-use Rattle.rules.specs.Lists.{only, Permuted}
+use Rattle.ends.specs.Lists.{only, Permuted}
 use Rattle.rules.specs.Records.{sameCar, isHeld, holds, mine, freePlaces, noneHeld, owned, freed, update, insert}
 use Rattle.rules.specs.Frames.{Place, ownPlace, freePlace, put}
 use Rattle.rules.specs.Ticks.{Ticked, nowFree, stillHeld, tickPhase, recordOf, tickRecord}
-use Rattle.rules.proofs.Logic.{split, clash, no-cons}
-use Rattle.rules.proofs.ListLaws.{only-none, only-yes, only-no, only-append, only-skip, only-parts, Found, find, permuted-length}
+use Rattle.ends.proofs.Logic.{split, clash, no-cons}
+use Rattle.ends.proofs.ListLaws.{only-none, only-yes, only-no, only-append, only-skip, only-parts, Found, find, permuted-length}
 
 -- ---- cars
 

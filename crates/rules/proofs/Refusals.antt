@@ -7,10 +7,10 @@ use native.Mathlib.Omega.{arith}
 use Rattle.messages.specs.Octets.{splice}
 use Rattle.messages.specs.Reading.{Checked, no, yes, check}
 use Rattle.rules.specs.declared.Station.{Station}
-use Rattle.rules.specs.Lists.{joins}
+use Rattle.ends.specs.Lists.{joins}
 use Rattle.rules.specs.Calls.{Call, frame, tick, pilot, terminate, linkUp}
-use Rattle.rules.specs.Outcomes.{Outcome, framesOf, joined, andThen}
-use Rattle.rules.specs.Stations.{Shared, Inner, shared, inner, build, Done, next, outcomeOf}
+use Rattle.ends.specs.Outcomes.{Outcome, framesOf, joined, andThen, next, outcomeOf}
+use Rattle.rules.specs.Stations.{Shared, Inner, shared, inner, build, Done}
 use Rattle.rules.specs.Ticks.{tickElapsed, tickDone}
 use Rattle.rules.specs.Rules.{rule, takesReading, sharedStep, step, outcome}
 

@@ -11,13 +11,13 @@ use Rattle.messages.proofs.TableLaws.{unicast-lt}
 use Rattle.messages.proofs.RoundTrips.{frame-destination}
 use Rattle.rules.specs.declared.Configuration.{Configuration}
 use Rattle.rules.specs.declared.Record.{Record}
-use Rattle.rules.specs.Lists.{only, All, joins}
+use Rattle.ends.specs.Lists.{only, All, joins}
 use Rattle.rules.specs.Records.{sameCar, isHeld, holds, mine}
 use Rattle.rules.specs.Replies.{Reply, parmCnf, matchCnf, report, messageTo, frameTo, framesTo}
 use Rattle.rules.specs.Ticks.{tickPhase, repliesOf, tickReports, allReports}
 use Rattle.rules.specs.Demand3.{isTo}
-use Rattle.rules.proofs.Logic.{split}
-use Rattle.rules.proofs.ListLaws.{only-append}
+use Rattle.ends.proofs.Logic.{split}
+use Rattle.ends.proofs.ListLaws.{only-append}
 use Rattle.rules.proofs.RecordLaws.{same-refl, same-eq, same-swap, holds-held, holds-same, not-same}
 
 -- octets 0 to 5 of a reply are its car's address

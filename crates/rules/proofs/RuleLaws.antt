@@ -12,7 +12,7 @@ use Rattle.rules.specs.declared.Record.{Record}
 use Rattle.rules.specs.Records.{sameRun}
 use Rattle.rules.specs.Received.{RecordMessage, parmReq, start, sound, profile, rsp}
 use Rattle.rules.specs.Frames.{Kept, freePlace, Change, putBack, startRule, soundRule, profileRule, rspRule, atOwn, atRun, requested, parmRule, changeRule, matchRule}
-use Rattle.rules.proofs.Logic.{clash, OnYes, on-check}
+use Rattle.ends.proofs.Logic.{clash, OnYes, on-check}
 use Rattle.rules.proofs.RecordLaws.{Ready, takes}
 
 -- what holds of each answer at the car's record

@@ -16,16 +16,16 @@ use Rattle.rules.specs.declared.Record.{Record}
 use Rattle.rules.specs.declared.State.{State}
 use Rattle.rules.specs.declared.State.the-variants.{Unmatched, Matching, Joining, Matched}
 use Rattle.rules.specs.declared.Station.{Station}
-use Rattle.rules.specs.Constants.{joiningTime}
+use Rattle.ends.specs.Constants.{joiningTime}
 use Rattle.rules.specs.Calls.{Call, frame, tick, pilot, terminate, linkUp}
-use Rattle.rules.specs.Outcomes.{Outcome, andThen}
-use Rattle.rules.specs.Stations.{Inner, inner, Done, next, outcomeOf}
+use Rattle.ends.specs.Outcomes.{Outcome, andThen, next, outcomeOf}
+use Rattle.rules.specs.Stations.{Inner, inner, Done}
 use Rattle.rules.specs.Records.{sameCar, sameRun, mine, freePlaces, freed}
 use Rattle.rules.specs.Received.{Request, forRecord, matchReq, Received, received}
 use Rattle.rules.specs.Frames.{Change, changeRule, matchRule, put, changed, confirmed, stateRule, admitted, frameRule}
 use Rattle.rules.specs.Rules.{rule, sharedStep, step, outcome}
 use Rattle.rules.specs.Demand3.{named, isCar, accepted, isTen, isKind, isFrame, moves}
-use Rattle.rules.proofs.Logic.{split, clash, OnYes}
+use Rattle.ends.proofs.Logic.{split, clash, OnYes}
 use Rattle.rules.proofs.RecordLaws.{same-refl, same-eq, same-swap, Ready, takes, ready-takes, same-put, mine-put-other, length-put, free-put}
 use Rattle.rules.proofs.RuleLaws.{isAsk, refusedTen, change-ready, change-same}
 use Rattle.rules.proofs.ReceivedLaws.{isMatch, ReadAs, read-as}

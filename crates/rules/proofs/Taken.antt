@@ -4,12 +4,12 @@ use mathlib.Core.Bool.{Bool, true, false}
 use mathlib.Core.List.{List, [], _∷_, _++_}
 use mathlib.Core.Option.{Option, none, some}
 use Rattle.messages.specs.declared.CarAddress.{CarAddress}
-use Rattle.rules.specs.Lists.{only, Permuted}
+use Rattle.ends.specs.Lists.{only, Permuted}
 use Rattle.rules.specs.Calls.{Call}
 use Rattle.rules.specs.Records.{sameCar}
 use Rattle.rules.specs.Demand3.{named, isCar}
-use Rattle.rules.proofs.Logic.{split, clash, no-cons}
-use Rattle.rules.proofs.ListLaws.{only-yes, only-no, only-append, only-skip, Found, find}
+use Rattle.ends.proofs.Logic.{split, clash, no-cons}
+use Rattle.ends.proofs.ListLaws.{only-yes, only-no, only-append, only-skip, Found, find}
 use Rattle.rules.proofs.RecordLaws.{same-refl, same-eq}
 
 abbrev pub isNone : Option CarAddress → Bool

@@ -2,7 +2,6 @@
 use Prim.Native.Nat.{ℕ}
 use mathlib.Core.Path.{_≡_}
 use mathlib.Core.List.{List}
-use lib.ListN.{length}
 use Rattle.messages.specs.declared.ModemAddress.{ModemAddress}
 use Rattle.messages.specs.declared.Nid.{Nid}
 use Rattle.messages.specs.declared.Nmk.{Nmk}
@@ -10,34 +9,16 @@ use Rattle.messages.specs.declared.StationAddress.{StationAddress}
 use Rattle.messages.specs.Octets.{splice}
 use Rattle.messages.specs.Reading.{Checked, no, yes}
 use Rattle.messages.specs.Answers.{numberOf}
-use Rattle.rules.specs.declared.Answer.{Answer}
-use Rattle.rules.specs.declared.Answer.the-variants as answer
 use Rattle.rules.specs.declared.Configured.{Configured}
 use Rattle.rules.specs.declared.HeardAnswer.{HeardAnswer}
 use Rattle.rules.specs.declared.HeardAnswer.the-variants as heardAnswer
-use Rattle.rules.specs.declared.Indication.{Indication}
 use Rattle.rules.specs.declared.Station.{Station}
 use Rattle.rules.specs.declared.Stepped.{Stepped}
 use Rattle.rules.specs.Calls.{Call}
-use Rattle.rules.specs.Outcomes.{Outcome, framesOf, joined}
+use Rattle.ends.specs.Answers.{answerOf, summary}
+use Rattle.ends.specs.Outcomes.{framesOf, joined}
 use Rattle.rules.specs.Rules.{configured, configuring, step, outcome}
 use Rattle.rules.specs.Invariant.{Invariant}
-
--- how many frames, of how many octets in all, and the indication
-pub record Summary : Type 0 where
-  pub frames : ℕ
-  pub octets : ℕ
-  pub indication : Indication
-
--- what an answer says
-abbrev pub answerOf : Answer → Checked Summary
-answerOf (answer.Refused x) = no (numberOf x)
-answerOf (answer.Done n k i) = yes (record { frames = n; octets = k; indication = i })
-
--- what an answer to this outcome must say
-abbrev pub summary : Outcome → Checked Summary
-summary (no n) = no n
-summary (yes x) = yes (record { frames = length (x .frames); octets = length (joined (x .frames)); indication = x .indication })
 
 -- what the service query's answer says
 abbrev pub heardOf : HeardAnswer → Checked ℕ

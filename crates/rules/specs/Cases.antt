@@ -6,7 +6,7 @@ use mathlib.Core.List.{List, [], _∷_, _++_, map}
 use lib.ListN.{length, replicate, take}
 use Rattle.messages.specs.Table.{Message, slacParmReq, broadcast, groupCount}
 use Rattle.messages.specs.Reading.{Checked, no, yes, readRules}
-use Rattle.rules.specs.declared.Indication.the-variants.{Nothing}
+use Rattle.ends.specs.declared.Indication.the-variants.{Nothing}
 use Rattle.rules.specs.declared.Phase.{Phase}
 use Rattle.rules.specs.declared.Phase.the-variants.{Asked, Sounding, Reported}
 use Rattle.rules.specs.declared.Pilot.{Pilot}
@@ -16,9 +16,9 @@ use Rattle.rules.specs.declared.State.{State}
 use Rattle.rules.specs.declared.State.the-variants.{Unmatched, Matching}
 use Rattle.rules.specs.declared.Station.{Station}
 use Rattle.rules.specs.Constants.{recordCount, leastOutput}
-use Rattle.rules.specs.Lists.{only}
+use Rattle.ends.specs.Lists.{only}
 use Rattle.rules.specs.Calls.{Call, frame, tick, pilot}
-use Rattle.rules.specs.Outcomes.{Outcome}
+use Rattle.ends.specs.Outcomes.{Outcome}
 use Rattle.rules.specs.Records.{isHeld}
 use Rattle.rules.specs.Rules.{freeRecord, step, outcome, after}
 

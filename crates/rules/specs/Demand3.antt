@@ -10,9 +10,9 @@ use Rattle.messages.specs.Octets.{value}
 use Rattle.messages.specs.Table.{Kind, slacParmReq, slacMatchReq, typeOf, Message}
 use Rattle.messages.specs.Reading.{Checked, no, yes, readRules, carOf}
 use Rattle.rules.specs.declared.Station.{Station}
-use Rattle.rules.specs.Lists.{only, All, Permuted}
+use Rattle.ends.specs.Lists.{only, All, Permuted}
 use Rattle.rules.specs.Calls.{Call, frame, tick, pilot, terminate, linkUp}
-use Rattle.rules.specs.Outcomes.{Outcome, framesOf}
+use Rattle.ends.specs.Outcomes.{Outcome, framesOf}
 use Rattle.rules.specs.Records.{sameCar, mine}
 use Rattle.rules.specs.Events.{plugged}
 use Rattle.rules.specs.Rules.{step, outcome, after}

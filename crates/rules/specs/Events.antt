@@ -2,8 +2,8 @@
 use mathlib.Core.Bool.{Bool, true, false}
 use mathlib.Core.List.{List, [], map}
 use Rattle.messages.specs.Reading.{Checked, no, yes}
-use Rattle.rules.specs.declared.Indication.{Indication}
-use Rattle.rules.specs.declared.Indication.the-variants.{Nothing, NoLink, LinkEstablished}
+use Rattle.ends.specs.declared.Indication.{Indication}
+use Rattle.ends.specs.declared.Indication.the-variants.{Nothing, NoLink, LinkEstablished}
 use Rattle.rules.specs.declared.Pilot.{Pilot}
 use Rattle.rules.specs.declared.Pilot.the-variants.{A, B, C, D, E, F}
 use Rattle.rules.specs.declared.Record.{Record}

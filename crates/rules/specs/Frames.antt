@@ -7,14 +7,15 @@ use Rattle.messages.specs.declared.CarAddress.{CarAddress}
 use Rattle.messages.specs.declared.RunId.{RunId}
 use Rattle.messages.specs.Reading.{Checked, no, yes, check}
 use Rattle.rules.specs.declared.Configuration.{Configuration}
-use Rattle.rules.specs.declared.Indication.the-variants.{Nothing}
+use Rattle.ends.specs.declared.Indication.the-variants.{Nothing}
 use Rattle.rules.specs.declared.Phase.{Phase}
 use Rattle.rules.specs.declared.Phase.the-variants.{Asked, Sounding, Reported, Awaiting}
 use Rattle.rules.specs.declared.Record.{Record}
 use Rattle.rules.specs.declared.State.{State}
 use Rattle.rules.specs.declared.State.the-variants.{Unmatched, Matching, Joining, Matched}
-use Rattle.rules.specs.Constants.{soundingTime, awaitingTime, joiningTime, retryCount, soundCount, leastOutput}
-use Rattle.rules.specs.Outcomes.{andThen}
+use Rattle.ends.specs.Constants.{joiningTime, retryCount, soundCount}
+use Rattle.rules.specs.Constants.{soundingTime, awaitingTime, leastOutput}
+use Rattle.ends.specs.Outcomes.{andThen}
 use Rattle.rules.specs.Records.{sameCar, sameRun, mine, freePlaces, owned, freed, update, insert, fresh, inPhase, reported, withHeard, counted}
 use Rattle.rules.specs.Sounds.{isIn, marked}
 use Rattle.rules.specs.Replies.{Reply, parmCnf, matchCnf, reportOf, framesTo}

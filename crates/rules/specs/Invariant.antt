@@ -10,8 +10,9 @@ use Rattle.rules.specs.declared.Phase.{Phase}
 use Rattle.rules.specs.declared.Phase.the-variants.{Asked, Sounding, Reported, Awaiting}
 use Rattle.rules.specs.declared.Record.{Record}
 use Rattle.rules.specs.declared.Station.{Station}
-use Rattle.rules.specs.Constants.{askedTime, soundingTime, reportedTime, awaitingTime, retryCount, soundCount}
-use Rattle.rules.specs.Lists.{All}
+use Rattle.ends.specs.Constants.{retryCount, soundCount}
+use Rattle.rules.specs.Constants.{askedTime, soundingTime, reportedTime, awaitingTime}
+use Rattle.ends.specs.Lists.{All}
 use Rattle.rules.specs.Calls.{Call, frame, tick, pilot, terminate, linkUp}
 use Rattle.rules.specs.Records.{isHeld}
 

@@ -1,7 +1,5 @@
-pub mod Lists
 pub mod Constants
 pub mod Calls
-pub mod Outcomes
 pub mod Stations
 pub mod Records
 pub mod Sounds

@@ -1,17 +1,9 @@
--- The numbers that stand for values where no enum can: in scripts, and at the border to C.
+-- The numbers that stand for pilot states where no enum can: in scripts, and at the border to C.
 use Prim.Native.Nat.{ℕ}
 use mathlib.Core.Bool.{cond}
 use lib.Dec.{eqb}
-use Rattle.rules.specs.declared.Indication.{Indication}
-use Rattle.rules.specs.declared.Indication.the-variants.{Nothing, NoLink, LinkEstablished}
 use Rattle.rules.specs.declared.Pilot.{Pilot}
 use Rattle.rules.specs.declared.Pilot.the-variants.{A, B, C, D, E, F}
-
--- an indication's number
-abbrev pub indicationNumber : Indication → ℕ
-indicationNumber Nothing = 0
-indicationNumber NoLink = 1
-indicationNumber LinkEstablished = 2
 
 -- a pilot state by its number: 0 to 4 for A to E, any other for F
 unfoldable pub pilotOf : ℕ → Pilot

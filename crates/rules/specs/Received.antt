@@ -9,7 +9,7 @@ use Rattle.messages.specs.Layout.{Values}
 use Rattle.messages.specs.Table.{Kind, slacParmReq, slacParmCnf, startAttenCharInd, attenCharInd, attenCharRsp, mnbcSoundInd, slacMatchReq, slacMatchCnf, attenProfileInd, payload, Message}
 use Rattle.messages.specs.Reading.{Checked, no, yes, readRules}
 use Rattle.rules.specs.declared.Configuration.{Configuration}
-use Rattle.rules.specs.Outcomes.{andThen}
+use Rattle.ends.specs.Outcomes.{andThen}
 
 -- what concerns a car's record: PARM.REQ, START, SOUND with its count, PROFILE with its group values, RSP
 pub data RecordMessage : Type 0 where

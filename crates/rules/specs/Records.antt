@@ -11,7 +11,7 @@ use Rattle.rules.specs.declared.Phase.{Phase}
 use Rattle.rules.specs.declared.Phase.the-variants.{Asked, Reported}
 use Rattle.rules.specs.declared.Record.{Record}
 use Rattle.rules.specs.Constants.{askedTime, reportedTime}
-use Rattle.rules.specs.Lists.{only}
+use Rattle.ends.specs.Lists.{only}
 
 -- two cars with one address
 unfoldable pub sameCar : CarAddress → CarAddress → Bool

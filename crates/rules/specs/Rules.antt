@@ -12,7 +12,7 @@ use Rattle.messages.specs.declared.Nmk.{Nmk}
 use Rattle.messages.specs.declared.StationAddress.{StationAddress}
 use Rattle.messages.specs.Table.{isUnicast}
 use Rattle.messages.specs.Reading.{Checked, no, yes, check}
-use Rattle.rules.specs.declared.Indication.the-variants.{Nothing}
+use Rattle.ends.specs.declared.Indication.the-variants.{Nothing}
 use Rattle.rules.specs.declared.Pilot.{Pilot}
 use Rattle.rules.specs.declared.Pilot.the-variants.{A}
 use Rattle.rules.specs.declared.Record.{Record}
@@ -20,8 +20,8 @@ use Rattle.rules.specs.declared.State.the-variants.{Unmatched}
 use Rattle.rules.specs.declared.Station.{Station}
 use Rattle.rules.specs.Constants.{recordCount}
 use Rattle.rules.specs.Calls.{Call, frame, tick, pilot, terminate, linkUp}
-use Rattle.rules.specs.Outcomes.{Outcome, andThen}
-use Rattle.rules.specs.Stations.{Shared, Inner, shared, inner, build, Done, next, outcomeOf}
+use Rattle.ends.specs.Outcomes.{Outcome, andThen, next, outcomeOf}
+use Rattle.rules.specs.Stations.{Shared, Inner, shared, inner, build, Done}
 use Rattle.rules.specs.Records.{mine, freed, fresh}
 use Rattle.rules.specs.Received.{received}
 use Rattle.rules.specs.Events.{plugged, ended, pilotDone, linkRule}

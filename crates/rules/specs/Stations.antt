@@ -1,14 +1,13 @@
 -- The two parts of a station: the one that no frame changes, and the state with the records.
 use Prim.Native.Nat.{ℕ}
 use mathlib.Core.List.{List}
-use Rattle.messages.specs.Reading.{Checked, no, yes}
 use Rattle.rules.specs.declared.Configuration.{Configuration}
-use Rattle.rules.specs.declared.Indication.{Indication}
+use Rattle.ends.specs.declared.Indication.{Indication}
 use Rattle.rules.specs.declared.Pilot.{Pilot}
 use Rattle.rules.specs.declared.Record.{Record}
 use Rattle.rules.specs.declared.State.{State}
 use Rattle.rules.specs.declared.Station.{Station}
-use Rattle.rules.specs.Outcomes.{Sent, Outcome}
+use Rattle.ends.specs.Outcomes as outcomes
 
 -- the configuration, "the last pilot state" and "the last clock reading"
 pub record Shared : Type 0 where
@@ -34,20 +33,9 @@ abbrev pub build : Shared → Inner → Station
 build o i = record { config = o .config; state = i .state; pilot = o .pilot; clock = o .clock; records = i .records }
 
 -- what an accepted call does: the state and records afterwards, and what it gives
-pub record Done : Type 0 where
-  pub inner : Inner
-  pub sent : Sent
+abbrev pub Done : Type 0
+Done = outcomes.Done Inner
 
 -- the state and records afterwards, the frames and the indication
 abbrev pub done : State → List Record → List (List ℕ) → Indication → Done
-done st rs fs x = record { inner = record { state = st; records = rs }; sent = record { frames = fs; indication = x } }
-
--- the state and records after a call: "each refusal changes neither station nor output"
-abbrev pub next : Inner → Checked Done → Inner
-next i (no n) = i
-next i (yes d) = d .inner
-
--- what a call gives
-abbrev pub outcomeOf : Checked Done → Outcome
-outcomeOf (no n) = no n
-outcomeOf (yes d) = yes (d .sent)
+done st rs fs x = record { after = record { state = st; records = rs }; sent = record { frames = fs; indication = x } }

@@ -1,35 +1,29 @@
 -- Ticks: the elapsed time, each record's time, then admission's or Joining's.
-use Prim.Native.Nat.{ℕ, zero, suc, _+_, _-_, _^_, _%_}
+use Prim.Native.Nat.{ℕ, zero, suc, _-_}
 use mathlib.Core.Bool.{Bool, true, false, cond}
 use mathlib.Core.List.{List, [], _∷_, map}
 use lib.Dec.{eqb, leb}
 use Rattle.messages.specs.declared.CarAddress.{CarAddress}
 use Rattle.messages.specs.declared.RunId.{RunId}
-use Rattle.messages.specs.Reading.{Checked, yes, check}
+use Rattle.messages.specs.Reading.{Checked}
 use Rattle.rules.specs.declared.Configuration.{Configuration}
-use Rattle.rules.specs.declared.Indication.the-variants.{Nothing, NoLink}
+use Rattle.ends.specs.declared.Indication.the-variants.{Nothing, NoLink}
 use Rattle.rules.specs.declared.Phase.{Phase}
 use Rattle.rules.specs.declared.Phase.the-variants.{Asked, Sounding, Reported, Awaiting}
 use Rattle.rules.specs.declared.Record.{Record}
 use Rattle.rules.specs.declared.State.{State}
 use Rattle.rules.specs.declared.State.the-variants.{Unmatched, Matching, Joining, Matched}
-use Rattle.rules.specs.Constants.{retryCount, longestGap, leastOutput}
-use Rattle.rules.specs.Lists.{joins}
+use Rattle.ends.specs.Clock.{tickTime}
+use Rattle.ends.specs.Constants.{retryCount}
+use Rattle.rules.specs.Constants.{leastOutput}
+use Rattle.ends.specs.Lists.{joins}
 use Rattle.rules.specs.Records.{isHeld, noneHeld, owned, freed, inPhase, reported}
 use Rattle.rules.specs.Replies.{Reply, reportOf, framesTo}
 use Rattle.rules.specs.Stations.{Shared, Done, done}
 
--- "the new reading less the last, modulo 2^32"
-abbrev pub elapsed : ℕ → ℕ → ℕ
-elapsed reading last = (reading + 2 ^ 32 - last) % 2 ^ 32
-
 -- 16, 15, 14, or the elapsed time
-unfoldable pub tickElapsed : Shared → ℕ → ℕ → Checked ℕ
-tickElapsed o reading room =
-    check (o .config .good) 16
-    (check (leb leastOutput room) 15
-    (check (leb (elapsed reading (o .clock)) longestGap) 14
-    (yes (elapsed reading (o .clock)))))
+abbrev pub tickElapsed : Shared → ℕ → ℕ → Checked ℕ
+tickElapsed o reading room = tickTime (o .config .good) leastOutput room reading (o .clock)
 
 -- ---- one record
 

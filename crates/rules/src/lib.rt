@@ -1,5 +1,8 @@
 // The station's types, configuring it, and the service query. What its calls do stands in specs/.
 
+use ends::Answer;
+use ends::Indication;
+use ends::RESPONSE_TIME;
 use messages::CarAddress;
 use messages::GROUPS;
 use messages::ModemAddress;
@@ -15,7 +18,7 @@ ghost use Rattle.rules.specs.Records as records;
 ghost use Rattle.rules.specs.Records.{noSums};
 ghost use Rattle.rules.specs.Rules.{isGood, freeRecord, heardIn, soundsHeard};
 ghost use Rattle.rules.specs.Answers.{heardOf, Configures};
-ghost use Rattle.rules.specs.Numbers.{indicationNumber, pilotOf};
+ghost use Rattle.rules.specs.Numbers.{pilotOf};
 
 // Admission's time, in milliseconds as the others: the greatest TT_EVSE_SLAC_init.
 pub const ADMISSION_TIME: u32 = 50000;
@@ -27,22 +30,10 @@ pub const ASKED_TIME: u32 = 400;
 pub const SOUNDING_TIME: u32 = 600;
 
 // Reported's time: TT_match_response.
-pub const REPORTED_TIME: u32 = 200;
+pub const REPORTED_TIME: u32 = RESPONSE_TIME;
 
 // Awaiting's time: TT_EVSE_match_session.
 pub const AWAITING_TIME: u32 = 10000;
-
-// Joining's time: TT_match_join.
-pub const JOINING_TIME: u32 = 12000;
-
-// The longest gap between two readings that a tick takes.
-pub const LONGEST_GAP: u32 = 60000;
-
-// How often a report is sent again: C_EV_match_retry.
-pub const RETRIES: u8 = 2;
-
-// How many sounds a car sends, and how many profiles close Sounding: C_EV_match_MNBC.
-pub const SOUNDS: u8 = 10;
 
 // How many runs are matched side by side: C_EVSE_match_parallel.
 pub const RECORDS: usize = 5;
@@ -118,23 +109,6 @@ pub struct Station {
     pub records: RecordArray,
 }
 
-// What a call tells besides its frames.
-pub enum Indication {
-    Nothing,
-    NoLink,
-    LinkEstablished,
-}
-
-// What a call gives: a refusal, or how many frames of how many octets in all stand in the output.
-pub enum Answer {
-    Refused(Refusal),
-    Done {
-        frames: u8,
-        octets: usize,
-        indication: Indication,
-    },
-}
-
 // The station after a call, and what the call gives.
 pub struct Stepped {
     pub station: Station,
@@ -151,17 +125,6 @@ pub struct Configured {
 pub enum HeardAnswer {
     Refused(Refusal),
     Heard(u32),
-}
-
-// An indication's number: 0 for none, 1 for "no link", 2 for "link established".
-pub fn indication_number(indication: Indication) -> u32
-    ensures { λ r. ⌜ r ≡ indicationNumber indication ⌝ }
-{
-    match indication {
-        Indication::Nothing => 0,
-        Indication::NoLink => 1,
-        Indication::LinkEstablished => 2,
-    }
 }
 
 // A pilot state by its number: 0 to 4 for A to E, any other for F.

@@ -13,7 +13,8 @@ use Rattle.messages.proofs.OctetLaws.{lent-part}
 use Rattle.messages.proofs.LayoutLaws.{and-left, and-right}
 use Rattle.rules.specs.declared.Configured.{Configured}
 use Rattle.rules.specs.Rules.{configuring}
-use Rattle.rules.specs.Answers.{answerOf, Configures}
+use Rattle.ends.specs.Answers.{answerOf}
+use Rattle.rules.specs.Answers.{Configures}
 use Rattle.script.specs.Layout.{addressIn, modemIn, nidIn, nmkIn, Event, given, eventOctets, mostOctets, kindIn, readingIn, roomIn, lengthIn, ofKind, isSized, eventIn}
 use Rattle.script.specs.Replies.{number, refusalNumber}
 use Rattle.script.specs.Promises.{longestReply, carriedOut, Starts}

@@ -12,19 +12,19 @@ use Rattle.messages.specs.declared.Refusal.{Refusal}
 use Rattle.messages.specs.Octets.{lowBytes, splice}
 use Rattle.messages.specs.Reading.{Checked, no, yes}
 use Rattle.messages.specs.Answers.{numberOf}
-use Rattle.rules.specs.declared.Answer.{Answer}
-use Rattle.rules.specs.declared.Answer.the-variants as answer
+use Rattle.ends.specs.declared.Answer.{Answer}
+use Rattle.ends.specs.declared.Answer.the-variants as answer
 use Rattle.rules.specs.declared.HeardAnswer.{HeardAnswer}
 use Rattle.rules.specs.declared.HeardAnswer.the-variants as heardAnswer
-use Rattle.rules.specs.declared.Indication.{Indication}
+use Rattle.ends.specs.declared.Indication.{Indication}
 use Rattle.rules.specs.declared.Station.{Station}
 use Rattle.rules.specs.declared.Stepped.{Stepped}
-use Rattle.rules.specs.Lists.{joins}
+use Rattle.ends.specs.Lists.{joins}
 use Rattle.rules.specs.Calls.{Call}
-use Rattle.rules.specs.Outcomes.{Outcome, framesOf, joined}
+use Rattle.ends.specs.Outcomes.{Outcome, framesOf, joined}
 use Rattle.rules.specs.Rules.{outcome, soundsHeard}
-use Rattle.rules.specs.Answers.{Summary, answerOf, summary, heardOf, Answers}
-use Rattle.rules.specs.Numbers.{indicationNumber}
+use Rattle.ends.specs.Answers.{Summary, answerOf, summary, indicationNumber}
+use Rattle.rules.specs.Answers.{heardOf, Answers}
 use Rattle.rules.specs.Invariant.{Invariant}
 use Rattle.script.specs.declared.Happened.{Happened}
 use Rattle.script.specs.Layout.{Event, call, query, mostOctets}

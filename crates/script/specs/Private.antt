@@ -6,8 +6,7 @@ use lib.ListN.{length}
 use Rattle.messages.specs.Octets.{splice}
 use Rattle.messages.specs.Reading.{Checked, no, yes}
 use Rattle.rules.specs.declared.Station.{Station}
-use Rattle.rules.specs.Answers.{Summary}
-use Rattle.rules.specs.Numbers.{indicationNumber}
+use Rattle.ends.specs.Answers.{Summary, indicationNumber}
 use Rattle.rules.specs.Invariant.{Invariant}
 use Rattle.script.specs.declared.Happened.{Happened}
 use Rattle.script.specs.Layout.{mostOctets}

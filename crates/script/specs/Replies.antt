@@ -4,8 +4,8 @@ use mathlib.Core.List.{List, [], _++_}
 use lib.ListN.{length}
 use Rattle.messages.specs.Octets.{lowBytes}
 use Rattle.messages.specs.Reading.{Checked, no, yes}
-use Rattle.rules.specs.Outcomes.{Outcome, joined}
-use Rattle.rules.specs.Numbers.{indicationNumber}
+use Rattle.ends.specs.Outcomes.{Outcome, joined}
+use Rattle.ends.specs.Answers.{indicationNumber}
 
 -- a number: four octets, low octet first
 abbrev pub number : ℕ → List ℕ

@@ -11,7 +11,7 @@ ghost use mathlib.Core.Option.{some};
 ghost use lib.Dec.{eqb};
 ghost use lib.ListN.{length};
 ghost use Rattle.rules.specs.Calls as calls;
-ghost use Rattle.rules.specs.Answers.{answerOf};
+ghost use Rattle.ends.specs.Answers.{answerOf};
 ghost use Rattle.script.specs.Layout.{call, given, pilotIn, queryIn, ofKind};
 ghost use Rattle.script.specs.Promises.{Happens};
 ghost use Rattle.script.specs.Private.{nothingAs, Ready, RoomReady, Fits, Answered};

@@ -1,13 +1,14 @@
 // Writing a reply's octets.
 use crate::REPLY_OCTETS;
 use crate::numbers;
-use rules::Answer;
+use ends::Answer;
 use rules::HeardAnswer;
 ghost use mathlib.Core.Path.{_≡_};
 ghost use Prim.Native.Nat.{_≤_};
 ghost use lib.ListN.{length};
 ghost use Rattle.messages.specs.Octets.{splice};
-ghost use Rattle.rules.specs.Answers.{answerOf, heardOf};
+ghost use Rattle.ends.specs.Answers.{answerOf};
+ghost use Rattle.rules.specs.Answers.{heardOf};
 ghost use Rattle.script.specs.Replies.{replyHead, queryReply, refusalNumber};
 ghost use Rattle.script.specs.Promises.{replyOctets, longestReply};
 ghost use Rattle.script.specs.Private.{Fits, Answered, Replied};
@@ -51,7 +52,7 @@ pub(crate) fn put_answer(out: &mut [u8], answer: Answer) -> usize
             octets,
             indication,
         } => {
-            put_head(out, 0, rules::indication_number(indication), octets);
+            put_head(out, 0, ends::indication_number(indication), octets);
             REPLY_OCTETS + octets
         }
     }

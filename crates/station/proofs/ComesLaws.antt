@@ -10,20 +10,21 @@ use Rattle.messages.specs.Answers.{numberOf}
 use Rattle.messages.specs.Octets.{Octets, splice}
 use Rattle.messages.specs.Reading.{Checked, no, yes}
 use Rattle.rules.specs.declared.Configuration.{Configuration}
-use Rattle.rules.specs.declared.Indication.the-variants.{Nothing}
+use Rattle.ends.specs.declared.Indication.the-variants.{Nothing}
 use Rattle.rules.specs.declared.Record.{Record}
 use Rattle.rules.specs.declared.State.{State}
 use Rattle.rules.specs.declared.State.the-variants.{Unmatched, Matching, Joining, Matched}
 use Rattle.rules.specs.declared.Station.{Station}
 use Rattle.rules.specs.declared.Stepped.{Stepped}
 use Rattle.rules.specs.Calls as calls
-use Rattle.rules.specs.Lists.{joins}
+use Rattle.ends.specs.Lists.{joins}
 use Rattle.rules.specs.Received.{RecordMessage, forRecord}
 use Rattle.rules.specs.Stations.{Done, shared, inner, done}
 use Rattle.rules.specs.Frames.{stateRule}
 use Rattle.rules.specs.Rules.{rule, sharedStep, step, outcome}
 use Rattle.rules.specs.Invariant.{Invariant}
-use Rattle.rules.specs.Answers.{answerOf, Answers}
+use Rattle.ends.specs.Answers.{answerOf}
+use Rattle.rules.specs.Answers.{Answers}
 use Rattle.rules.proofs.InvariantKept.{step-keeps}
 use Rattle.rules.proofs.State.{the-type}
 use Rattle.station.specs.Steps.{refusedAs, doneAs, anew}

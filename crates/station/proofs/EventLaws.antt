@@ -8,8 +8,8 @@ use denote.Enum.Declared.{tagOf}
 use Rattle.messages.specs.declared.CarAddress.{CarAddress}
 use Rattle.messages.specs.declared.RunId.{RunId}
 use Rattle.messages.specs.Reading.{no, yes}
-use Rattle.rules.specs.declared.Indication.{Indication}
-use Rattle.rules.specs.declared.Indication.the-variants.{Nothing, LinkEstablished}
+use Rattle.ends.specs.declared.Indication.{Indication}
+use Rattle.ends.specs.declared.Indication.the-variants.{Nothing, LinkEstablished}
 use Rattle.rules.specs.declared.Pilot.{Pilot}
 use Rattle.rules.specs.declared.Record.{Record}
 use Rattle.rules.specs.declared.State.{State}
@@ -23,7 +23,7 @@ use Rattle.rules.specs.Stations.{Shared, shared, inner, done}
 use Rattle.rules.specs.Events.{plugged, ended, pilotDone, linkRule}
 use Rattle.rules.specs.Rules.{rule, takesPilot, sharedStep}
 use Rattle.rules.proofs.State as state
-use Rattle.rules.proofs.Logic.{split}
+use Rattle.ends.proofs.Logic.{split}
 use Rattle.messages.proofs.CheckLaws.{pass}
 use Rattle.station.specs.Steps.{doneAs, sharedAs, anew, Gives}
 use Rattle.station.proofs.StepLaws.{no-frames, gives-as}

@@ -7,9 +7,9 @@ use native.Mathlib.Omega.{arith}
 use lib.Dec.{eqb, eqb·suc-zero}
 use lib.ListN.{length, drop, getD, drop-of-length-le}
 use Rattle.rules.specs.declared.Record.{Record}
-use Rattle.rules.specs.Lists.{only}
+use Rattle.ends.specs.Lists.{only}
 use Rattle.rules.specs.Records.{isHeld, noneHeld}
-use Rattle.rules.proofs.ListLaws.{drop-next, only-none, only-yes, only-no}
+use Rattle.ends.proofs.ListLaws.{drop-next, only-none, only-yes, only-no}
 
 -- from the place i on no record is held where none is at all
 abbrev pub Sought : List Record → ℕ → Type 0

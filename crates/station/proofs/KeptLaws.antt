@@ -15,7 +15,7 @@ use Rattle.rules.specs.Records.{owned, fresh}
 use Rattle.rules.specs.Frames.{Kept, Change, putBack, requested, parmRule, changeRule}
 use Rattle.rules.specs.Invariant.{GoodRecord}
 use Rattle.rules.proofs.InvariantKept.{change-good}
-use Rattle.rules.proofs.Logic.{OnYes}
+use Rattle.ends.proofs.Logic.{OnYes}
 use Rattle.rules.proofs.ReadingLaws.{none-octets, read-groups}
 use Rattle.rules.proofs.ReceivedLaws.{OctetRequest}
 use Rattle.records.specs.declared.requests.Kept as code

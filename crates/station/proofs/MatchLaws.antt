@@ -14,8 +14,8 @@ use Rattle.rules.specs.declared.Record.{Record}
 use Rattle.rules.specs.declared.State.{State}
 use Rattle.rules.specs.declared.State.the-variants.{Unmatched, Matching, Joining, Matched}
 use Rattle.rules.specs.declared.Station.{Station}
-use Rattle.rules.specs.Constants.{joiningTime}
-use Rattle.rules.specs.Outcomes.{andThen}
+use Rattle.ends.specs.Constants.{joiningTime}
+use Rattle.ends.specs.Outcomes.{andThen}
 use Rattle.rules.specs.Records.{sameCar, sameRun, mine, freed}
 use Rattle.rules.specs.Received.{matchReq}
 use Rattle.rules.specs.Stations.{Done}

@@ -5,12 +5,12 @@ use mathlib.Core.List.{List, [], _∷_}
 use lib.ListN.{getD, set}
 use Rattle.messages.specs.declared.CarAddress.{CarAddress}
 use Rattle.messages.specs.Reading.{Checked, no, yes}
-use Rattle.rules.specs.declared.Indication.the-variants.{Nothing}
+use Rattle.ends.specs.declared.Indication.the-variants.{Nothing}
 use Rattle.rules.specs.declared.Record.{Record}
 use Rattle.rules.specs.declared.State.{State}
 use Rattle.rules.specs.declared.State.the-variants.{Matching}
 use Rattle.rules.specs.declared.Station.{Station}
-use Rattle.rules.specs.Outcomes.{andThen}
+use Rattle.ends.specs.Outcomes.{andThen}
 use Rattle.rules.specs.Records.{mine, freePlaces, owned}
 use Rattle.rules.specs.Received.{forRecord}
 use Rattle.rules.specs.Replies.{Reply, reportOf, framesTo}

@@ -11,11 +11,11 @@ use Rattle.messages.specs.declared.CarAddress.{CarAddress}
 use Rattle.messages.specs.declared.RunId.{RunId}
 use Rattle.messages.specs.Reading.{Checked, no, yes, check}
 use Rattle.rules.specs.declared.Configuration.{Configuration}
-use Rattle.rules.specs.declared.Indication.the-variants as indication
+use Rattle.ends.specs.declared.Indication.the-variants as indication
 use Rattle.rules.specs.declared.Record.{Record}
 use Rattle.rules.specs.declared.State.{State}
 use Rattle.rules.specs.declared.State.the-variants.{Matching}
-use Rattle.rules.specs.Outcomes.{andThen}
+use Rattle.ends.specs.Outcomes.{andThen}
 use Rattle.rules.specs.Records.{mine, freePlaces, owned, fresh}
 use Rattle.rules.specs.Received.{parmReq, forRecord}
 use Rattle.rules.specs.Replies.{parmCnf, framesTo}

@@ -15,7 +15,8 @@ use Rattle.rules.specs.declared.Configuration.{Configuration}
 use Rattle.rules.specs.declared.Record.{Record}
 use Rattle.rules.specs.Replies.{mean, reportOf, messageTo, frameTo}
 use Rattle.station.specs.Reports.{reportSize, Reportable, Writes}
-use Rattle.station.proofs.SendLaws.{sent-octets, report-writable}
+use Rattle.ends.proofs.SendLaws.{written-octets}
+use Rattle.station.proofs.SendLaws.{report-writable}
 
 -- what writing the message x of a report with its group values g leaves in an output with room for it
 pub writes-report : (o : Configuration) (r : Record) (x : Message) (g entry exit : List ℕ) → Reportable o r → r .run .0 < 2 ^ 64 → r .profiles < 2 ^ 8 → length (r .sums) ≡ groupCount
@@ -27,7 +28,7 @@ writes-report o r x g entry exit fine run count l ex eg room e =
     let same : messageOf x g ≡ m = ap (messageOf x) eg ∙ ex in
     record {
       octets =
-          sent-octets m entry (report-writable o (r .car) (length entry) (fine .address) (fine .car) r run count l room) exit
+          written-octets m entry (report-writable o (r .car) (length entry) (fine .address) (fine .car) r run count l room) exit
           (e ∙ ap (λ (y : table.Message). splice 0 (octetsOf (writeRules y (length entry))) entry) same);
       size = length-frame m (full-message (AttenCharInd (o .address) (r .car) (r .run) (r .profiles)) (map (mean (r .profiles)) (r .sums)) (length-map (r .sums) (mean (r .profiles)) ∙ l));
     }

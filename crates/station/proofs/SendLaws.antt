@@ -2,7 +2,7 @@
 use Prim.Native.Nat.{ℕ, _^_, _<_, _≤_}
 use mathlib.Core.Path.{_≡_, refl, sym, ap, _∙_, subst}
 use mathlib.Core.Bool.{true, _&&_}
-use mathlib.Core.List.{List, [], _∷_, map, append-nil}
+use mathlib.Core.List.{List, [], _∷_, map}
 use native.Mathlib.Omega.{arith}
 use borrow.Author.Tests.{lt-ltb}
 use lib.ListN.{length, length-map, length-replicate}
@@ -10,60 +10,36 @@ use Rattle.messages.specs.declared.CarAddress.{CarAddress}
 use Rattle.messages.specs.declared.Message.{Message}
 use Rattle.messages.specs.declared.Message.the-variants.{SlacParmCnf, AttenCharInd, SlacMatchCnf}
 use Rattle.messages.specs.declared.RunId.{RunId}
-use Rattle.messages.specs.declared.Written.{Written}
-use Rattle.messages.specs.declared.Written.the-variants as written
-use Rattle.messages.specs.declared.Refusal.{Refusal}
-use Rattle.messages.specs.Answers.{messageOf, writtenOf}
+use Rattle.messages.specs.Answers.{messageOf}
 use Rattle.messages.specs.Octets.{splice}
-use Rattle.messages.specs.Reading.{Checked, yes, noGroups}
+use Rattle.messages.specs.Reading.{yes, noGroups}
 use Rattle.messages.specs.Table as table
 use Rattle.messages.specs.Table.{groupCount, isUnicast, writtenSize}
-use Rattle.messages.specs.Writing.{frame, isAddressed, isLimited, writeRules, lengthOf, octetsOf}
-use Rattle.messages.proofs.WriteLaws.{Typed, headIn, headed, writes}
+use Rattle.messages.specs.Writing.{frame, isAddressed, isLimited}
+use Rattle.messages.proofs.WriteLaws.{Typed, headIn, headed}
 use Rattle.rules.specs.declared.Configuration.{Configuration}
-use Rattle.rules.specs.declared.Indication.the-variants.{Nothing}
+use Rattle.ends.specs.declared.Indication.the-variants.{Nothing}
 use Rattle.rules.specs.declared.Record.{Record}
 use Rattle.rules.specs.declared.State.{State}
 use Rattle.rules.specs.declared.Station.{Station}
-use Rattle.rules.specs.declared.Stepped.{Stepped}
 use Rattle.rules.specs.Constants.{leastOutput}
-use Rattle.rules.specs.Lists.{joins}
 use Rattle.rules.specs.Replies.{mean, parmCnf, matchCnf, reportOf, messageTo}
 use Rattle.rules.specs.Stations.{done}
-use Rattle.rules.specs.Answers.{Summary, answerOf}
-use Rattle.station.specs.Steps.{doneAs, anew}
-use Rattle.station.specs.Frames.{Writable, Comes}
-
--- ---- what was written
-
-module _ (m : table.Message) (l : List ℕ) (w : Writable m (length l)) where
-  -- writing does not refuse it
-  written-as : writeRules m (length l) ≡ yes (frame m)
-  written-as = sym (writes m l (w .addressed) (w .limited) (w .room))
-
-  -- how many octets
-  pub sent-length : (a : Written) (n : ℕ) → writtenOf a ≡ lengthOf (writeRules m (length l)) → a ≡ written.Octets n → n ≡ length (frame m)
-  sent-length a n e t =
-      let q : yes n ≡ yes (length (frame m)) = sym (ap writtenOf t) ∙ e ∙ ap lengthOf written-as in cc
-
-  -- and where they stand
-  pub sent-octets : (exit : List ℕ) → exit ≡ splice 0 (octetsOf (writeRules m (length l))) l → exit ≡ splice 0 (frame m) l
-  sent-octets exit e = e ∙ ap (λ (x : Checked (List ℕ)). splice 0 (octetsOf x) l) written-as
-
-  -- it is not refused
-  pub not-refused : {P : Type 0} (a : Written) (x : Refusal) → writtenOf a ≡ lengthOf (writeRules m (length l)) → a ≡ written.Refused x → P
-  not-refused a x e t = absurd
-      (let q = sym (ap writtenOf t) ∙ e ∙ ap lengthOf written-as in
-      let z : _≡_ {A = ℕ} 0 1 = cc in omega arith)
+use Rattle.ends.specs.declared.Answer.{Answer}
+use Rattle.ends.specs.Answers.{summary}
+use Rattle.ends.specs.Outcomes.{Outcome, framesOf, joined}
+use Rattle.station.specs.Steps.{anew}
+use Rattle.ends.specs.Sending.{Sends, Writable}
+use Rattle.ends.proofs.SendLaws.{sends-writable}
+use Rattle.station.specs.Frames.{Comes}
 
 -- one frame sent
-pub one-sent : (s : Station) (st : State) (rs : List Record) (f : List ℕ) (n : ℕ) (entry exit : List ℕ) (x : Station) (r : Stepped) → x ≡ anew s (s .pilot) (s .clock) st rs → r ≡ doneAs x 1 n Nothing → n ≡ length f → exit ≡ splice 0 f entry
-    → Comes s (yes (done st rs (f ∷ []) Nothing)) entry exit r
-unfolding joins
-one-sent s st rs f n entry exit x r ex er en eo = record {
-  station = ap (λ (y : Stepped). y .station) er ∙ ex;
-  answer = ap (λ (y : Stepped). answerOf (y .answer)) er ∙ ap (λ (k : ℕ). yes (let y : Summary = record { frames = 1; octets = k; indication = Nothing } in y)) (en ∙ ap length (sym (append-nil f)));
-  octets = eo ∙ ap (λ (ws : List ℕ). splice 0 ws entry) (sym (append-nil f));
+pub one-sent : (s : Station) (st : State) (rs : List Record) (m : table.Message) (entry exit : List ℕ) (x : Station) (a : Answer) → Writable m (length entry) → x ≡ anew s (s .pilot) (s .clock) st rs → Sends m Nothing entry exit a
+    → Comes s (yes (done st rs (frame m ∷ []) Nothing)) entry exit (record { station = x; answer = a })
+one-sent s st rs m entry exit x a w ex e = record {
+  station = ex;
+  answer = e .answer ∙ ap summary (sends-writable m entry w Nothing);
+  octets = e .octets ∙ ap (λ (u : Outcome). splice 0 (joined (framesOf u)) entry) (sends-writable m entry w Nothing);
 }
 
 -- ---- the replies can be written

@@ -9,19 +9,20 @@ use Rattle.messages.specs.declared.Refusal.the-variants.{BadConfiguration}
 use Rattle.messages.specs.Octets.{splice}
 use Rattle.messages.specs.Reading.{Checked, no, yes}
 use Rattle.messages.specs.Answers.{numberOf}
-use Rattle.rules.specs.declared.Indication.{Indication}
+use Rattle.ends.specs.declared.Indication.{Indication}
 use Rattle.rules.specs.declared.Pilot.{Pilot}
 use Rattle.rules.specs.declared.Record.{Record}
 use Rattle.rules.specs.declared.State.{State}
 use Rattle.rules.specs.declared.Station.{Station}
 use Rattle.rules.specs.declared.Stepped.{Stepped}
-use Rattle.rules.specs.Lists.{joins}
+use Rattle.ends.specs.Lists.{joins}
 use Rattle.rules.specs.Calls.{Call}
-use Rattle.rules.specs.Outcomes.{framesOf, joined}
-use Rattle.rules.specs.Stations.{Shared, Done, shared, inner, build, done, next, outcomeOf}
+use Rattle.ends.specs.Outcomes.{framesOf, joined, next, outcomeOf}
+use Rattle.rules.specs.Stations.{Shared, Done, shared, inner, build, done}
 use Rattle.rules.specs.Rules.{rule, sharedStep, step, outcome}
 use Rattle.rules.specs.Invariant.{Invariant, OctetCall}
-use Rattle.rules.specs.Answers.{Summary, answerOf, summary, Answers}
+use Rattle.ends.specs.Answers.{Summary, answerOf, summary}
+use Rattle.rules.specs.Answers.{Answers}
 use Rattle.rules.proofs.Refusals.{refused-station, refused-output}
 use Rattle.rules.proofs.ReachableHolds.{bad-refuses}
 use Rattle.rules.proofs.InvariantKept.{step-keeps}

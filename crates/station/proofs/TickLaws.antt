@@ -1,77 +1,64 @@
--- The tick call: the order of its refusals, and what it comes to in each state.
-use Prim.Native.Nat.{ℕ, zero, suc, _*_, _-_, _≤_, _<_}
+-- The tick call: what follows the elapsed time, and what it comes to in each state.
+use Prim.Native.Nat.{ℕ, zero, suc, _*_, _-_, _≤_}
 use mathlib.Core.Path.{_≡_, refl, sym, ap, ap₂, _∙_, subst}
 use mathlib.Core.Bool.{Bool, true, false, _&&_}
 use mathlib.Core.List.{List, []}
 use native.Mathlib.Omega.{arith}
 use borrow.Author.Tests.{le-leb, lt-leb}
-use lib.Dec.{eqb, leb, eqb·suc-zero}
+use lib.Dec.{eqb, eqb·suc-zero}
 use lib.ListN.{length}
 use Rattle.messages.specs.declared.CarAddress.{CarAddress}
 use Rattle.messages.specs.declared.RunId.{RunId}
 use Rattle.messages.specs.Reading.{Checked, no, yes}
-use Rattle.messages.proofs.CheckLaws.{pass, fail}
-use Rattle.rules.specs.declared.Indication.{Indication}
-use Rattle.rules.specs.declared.Indication.the-variants.{Nothing, NoLink}
+use Rattle.ends.proofs.ClockLaws.{time-open}
+use Rattle.ends.specs.declared.Indication.{Indication}
+use Rattle.ends.specs.declared.Indication.the-variants.{Nothing, NoLink}
 use Rattle.rules.specs.declared.Record.{Record}
 use Rattle.rules.specs.declared.State.{State}
 use Rattle.rules.specs.declared.State.the-variants.{Unmatched, Matching, Joining}
 use Rattle.rules.specs.declared.Station.{Station}
 use Rattle.rules.specs.declared.Stepped.{Stepped}
-use Rattle.rules.specs.Constants.{recordCount, longestGap, leastOutput}
+use Rattle.rules.specs.Constants.{recordCount, leastOutput}
 use Rattle.rules.specs.Calls.{tick}
-use Rattle.rules.specs.Outcomes.{andThen}
+use Rattle.ends.specs.Outcomes.{andThen}
 use Rattle.rules.specs.Records.{noneHeld}
 use Rattle.rules.specs.Stations.{Done, shared, inner, done}
-use Rattle.rules.specs.Ticks.{elapsed, tickElapsed, allReports, admissionDone, joiningDone, tickDone}
+use Rattle.rules.specs.Ticks.{tickElapsed, allReports, admissionDone, joiningDone, tickDone}
 use Rattle.rules.specs.Rules.{rule, takesReading, sharedStep}
 use Rattle.rules.specs.Invariant.{Invariant}
-use Rattle.rules.proofs.Logic.{clash}
+use Rattle.ends.proofs.Logic.{clash}
 use Rattle.station.specs.declared.all_records.TickedRecords.{TickedRecords}
 use Rattle.station.specs.Steps.{doneAs, sharedAs, anew, Gives}
 use Rattle.station.specs.Reports.{reportSize, Ready, Ticks}
 use Rattle.station.proofs.StepLaws.{framed, no-frames, gives-as}
 
--- ---- the order of the refusals
+-- ---- what follows the elapsed time
 
-module _ (s : Station) (t room : ℕ) (g : s .config .good ≡ true) where
-  -- what follows the elapsed time
+module _ (s : Station) (t room : ℕ) where
   follows : Checked ℕ → Checked Done
   follows w = andThen w (λ (e : ℕ). yes (tickDone (s .config) e (s .state) (s .records)))
 
-  -- 15
-  pub tick-short : room < leastOutput → rule (shared s) (inner s) (tick t room) ≡ no 15
-  unfolding rule tickElapsed follows
-  tick-short h = ap follows (pass (s .config .good) 16 _ g ∙ fail (leb leastOutput room) 15 _ (lt-leb leastOutput room h))
+  -- a refusal
+  pub tick-refused : (n : ℕ) → no n ≡ tickElapsed (shared s) t room → rule (shared s) (inner s) (tick t room) ≡ no n
+  unfolding rule follows
+  tick-refused n h = sym (ap follows h)
 
-  module _ (r : leastOutput ≤ room) (e : ℕ) (ee : e ≡ elapsed t (s .clock)) where
-    -- 14
-    pub tick-gap : longestGap < e → rule (shared s) (inner s) (tick t room) ≡ no 14
-    unfolding rule tickElapsed follows
-    tick-gap h =
-        let k : leb (elapsed t (s .clock)) longestGap ≡ false = ap (λ (n : ℕ). leb n longestGap) (sym ee) ∙ lt-leb e longestGap h in
-        ap follows (pass (s .config .good) 16 _ g ∙ pass (leb leastOutput room) 15 _ (le-leb leastOutput room r) ∙ fail (leb (elapsed t (s .clock)) longestGap) 14 _ k)
-
-    -- the elapsed time, where none of the three refuses
-    taken : e ≤ longestGap → tickElapsed (shared s) t room ≡ yes e
-    unfolding tickElapsed
-    taken h =
-        let k : leb (elapsed t (s .clock)) longestGap ≡ true = ap (λ (n : ℕ). leb n longestGap) (sym ee) ∙ le-leb e longestGap h in
-        pass (s .config .good) 16 _ g ∙ pass (leb leastOutput room) 15 _ (le-leb leastOutput room r) ∙ pass (leb (elapsed t (s .clock)) longestGap) 14 _ k ∙ ap yes (sym ee)
-
-    -- then what the rule gives
-    pub tick-rule : e ≤ longestGap → rule (shared s) (inner s) (tick t room) ≡ yes (tickDone (s .config) e (s .state) (s .records))
+  module _ (e : ℕ) (h : yes e ≡ tickElapsed (shared s) t room) where
+    -- what the rule gives
+    pub tick-rule : rule (shared s) (inner s) (tick t room) ≡ yes (tickDone (s .config) e (s .state) (s .records))
     unfolding rule follows
-    tick-rule h = ap follows (taken h)
+    tick-rule = sym (ap follows h)
 
     -- and the reading is taken
-    pub tick-shared : e ≤ longestGap → sharedStep (shared s) (tick t room) ≡ sharedAs s (s .pilot) t
+    pub tick-shared : sharedStep (shared s) (tick t room) ≡ sharedAs s (s .pilot) t
     unfolding sharedStep takesReading
-    tick-shared h = ap (λ (w : Checked ℕ). takesReading w t (shared s)) (taken h)
+    tick-shared = sym (ap (λ (w : Checked ℕ). takesReading w t (shared s)) h)
 
--- the station's records can be ticked
-pub tick-ready : (s : Station) (out : List ℕ) → Invariant s → s .config .good ≡ true → length (s .records) ≡ recordCount → leastOutput ≤ length out → Ready (s .config) (s .records) out
-tick-ready s out i g n h = record { address = i .config .address g; good = i .records; room = omega arith }
+-- the station's records can be ticked where the time is taken
+pub tick-ready : (s : Station) (t e : ℕ) (out : List ℕ) → Invariant s → length (s .records) ≡ recordCount → yes e ≡ tickElapsed (shared s) t (length out) → Ready (s .config) (s .records) out
+tick-ready s t e out i n h =
+    let w : (s .config .good ≡ true) × (leastOutput ≤ length out) = time-open (s .config .good) leastOutput (length out) t (s .clock) e h in
+    record { address = i .config .address (w .0); good = i .records; room = omega (arith, w .1) }
 
 -- ---- a state in which nothing is sent
 

@@ -11,12 +11,12 @@ use borrow.Rule.Slice.PartMut.{putMid, same-len-mid}
 use Rattle.messages.specs.Octets.{splice}
 use Rattle.rules.specs.declared.Configuration.{Configuration}
 use Rattle.rules.specs.declared.Record.{Record}
-use Rattle.rules.specs.Lists.{joins}
-use Rattle.rules.specs.Outcomes.{joined}
+use Rattle.ends.specs.Lists.{joins}
+use Rattle.ends.specs.Outcomes.{joined}
 use Rattle.rules.specs.Replies.{reportOf, frameTo}
 use Rattle.rules.specs.Ticks.{tickRecord, tickReports, allReports}
 use Rattle.rules.specs.Invariant.{GoodRecord}
-use Rattle.rules.proofs.ListLaws.{all-at, joins-append}
+use Rattle.ends.proofs.ListLaws.{all-at, joins-append}
 use Rattle.records.specs.declared.timers.AfterTick.{AfterTick}
 use Rattle.records.specs.Timers.{afterTick}
 use Rattle.records.proofs.FillLaws.{Filled, fill-none, fill-next, fill-all}

@@ -10,18 +10,19 @@ use Rattle.messages.specs.Octets.{splice}
 use Rattle.messages.specs.Reading.{Checked, no, yes}
 use Rattle.messages.specs.Table.{isUnicast, writtenSize, Message}
 use Rattle.messages.specs.Writing.{isAddressed, isLimited}
-use Rattle.rules.specs.declared.Indication.the-variants.{Nothing}
+use Rattle.ends.specs.declared.Indication.the-variants.{Nothing}
 use Rattle.rules.specs.declared.State.the-variants.{Joining}
 use Rattle.rules.specs.declared.Station.{Station}
 use Rattle.rules.specs.declared.Stepped.{Stepped}
-use Rattle.rules.specs.Constants.{joiningTime, leastOutput}
-use Rattle.rules.specs.Outcomes.{framesOf, joined, andThen}
-use Rattle.rules.specs.Stations.{Done, shared, inner, build, done, next, outcomeOf}
+use Rattle.ends.specs.Constants.{joiningTime}
+use Rattle.rules.specs.Constants.{leastOutput}
+use Rattle.ends.specs.Outcomes.{framesOf, joined, andThen, next, outcomeOf}
+use Rattle.rules.specs.Stations.{Done, shared, inner, build, done}
 use Rattle.rules.specs.Records.{mine, owned, freed}
 use Rattle.rules.specs.Replies.{framesTo}
 use Rattle.rules.specs.Frames.{Kept, matchRule, confirmed}
 use Rattle.rules.specs.Invariant.{GoodRecord, Invariant}
-use Rattle.rules.specs.Answers.{answerOf, summary}
+use Rattle.ends.specs.Answers.{answerOf, summary}
 
 -- a message that an output of n octets takes
 pub record Writable (m : Message) (n : ℕ) : Type 0 where

@@ -8,8 +8,8 @@ use Rattle.messages.specs.Octets.{splice}
 use Rattle.messages.specs.Table.{attenCharInd, writtenSize, isUnicast}
 use Rattle.rules.specs.declared.Configuration.{Configuration}
 use Rattle.rules.specs.declared.Record.{Record}
-use Rattle.rules.specs.Lists.{All}
-use Rattle.rules.specs.Outcomes.{joined}
+use Rattle.ends.specs.Lists.{All}
+use Rattle.ends.specs.Outcomes.{joined}
 use Rattle.rules.specs.Ticks.{tickRecord, allReports}
 use Rattle.rules.specs.Invariant.{GoodRecord}
 use Rattle.station.specs.declared.all_records.TickedRecords.{TickedRecords}

@@ -5,16 +5,16 @@ use mathlib.Core.List.{List}
 use Rattle.messages.specs.declared.Refusal.{Refusal}
 use Rattle.messages.specs.Octets.{splice}
 use Rattle.messages.specs.Reading.{yes}
-use Rattle.rules.specs.declared.Answer.the-variants as answer
-use Rattle.rules.specs.declared.Indication.{Indication}
+use Rattle.ends.specs.declared.Answer.the-variants as answer
+use Rattle.ends.specs.declared.Indication.{Indication}
 use Rattle.rules.specs.declared.Pilot.{Pilot}
 use Rattle.rules.specs.declared.Record.{Record}
 use Rattle.rules.specs.declared.State.{State}
 use Rattle.rules.specs.declared.Station.{Station}
 use Rattle.rules.specs.declared.Stepped.{Stepped}
-use Rattle.rules.specs.Outcomes.{joined}
+use Rattle.ends.specs.Outcomes.{joined}
 use Rattle.rules.specs.Stations.{Shared, Done, build}
-use Rattle.rules.specs.Answers.{answerOf, summary}
+use Rattle.ends.specs.Answers.{answerOf, summary}
 
 -- a refusal's answer, with the station as it was
 abbrev pub refusedAs : Station → Refusal → Stepped
@@ -34,6 +34,6 @@ anew s p t st rs = build (sharedAs s p t) (record { state = st; records = rs })
 
 -- r and the output from entry to exit are what an accepted call comes to: o is its shared part afterwards
 pub record Gives (o : Shared) (d : Done) (entry exit : List ℕ) (r : Stepped) : Type 0 where
-  pub station : r .station ≡ build o (d .inner)
+  pub station : r .station ≡ build o (d .after)
   pub answer : answerOf (r .answer) ≡ summary (yes (d .sent))
   pub octets : exit ≡ splice 0 (joined (d .sent .frames)) entry

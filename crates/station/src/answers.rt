@@ -1,7 +1,7 @@
 // The station and the answer that a call comes to.
+use ends::Answer;
+use ends::Indication;
 use messages::Refusal;
-use rules::Answer;
-use rules::Indication;
 use rules::Pilot;
 use rules::RecordArray;
 use rules::State;

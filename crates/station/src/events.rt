@@ -1,8 +1,8 @@
 // Pilot, terminate and link up, in a station that is well configured.
 use crate::answers;
 use crate::freeing;
+use ends::Indication;
 use rules::ADMISSION_TIME;
-use rules::Indication;
 use rules::Pilot;
 use rules::State;
 use rules::Station;

@@ -2,6 +2,8 @@
 use crate::answers;
 use crate::freeing;
 use crate::sending;
+use ends::Indication;
+use ends::JOINING_TIME;
 use messages::CarAddress;
 use messages::Refusal;
 use messages::RunId;
@@ -16,8 +18,6 @@ use records::requests;
 use records::requests::Effect;
 use records::requests::Kept;
 use records::requests::Verdict;
-use rules::Indication;
-use rules::JOINING_TIME;
 use rules::Record;
 use rules::RecordArray;
 use rules::State;

@@ -8,11 +8,11 @@ mod reports;
 mod sending;
 mod ticks;
 
+use ends::TickTime;
 use messages::Refusal;
 use receiving::judge;
 use receiving::judge::Judged;
 use rules::LEAST_OUTPUT;
-use rules::LONGEST_GAP;
 use rules::State;
 use rules::Station;
 use rules::Stepped;
@@ -42,17 +42,11 @@ pub fn tick(station: Station, reading: u32, out: &mut [u8]) -> Stepped
     ensures { λ r. ⌜ Answers station (calls.tick reading (length (now (out .entry)))) (now (out .entry)) (now (out .exit)) r ⌝ }
 {
     let config = station.config;
-    if !config.good {
-        return answers::refused(station, Refusal::BadConfiguration);
+    let time = ends::tick_time(config.good, LEAST_OUTPUT, out.len(), reading, station.clock);
+    match time {
+        TickTime::Refused(refusal) => answers::refused(station, refusal),
+        TickTime::Elapsed(elapsed) => ticks::run(station, reading, elapsed, out),
     }
-    if out.len() < LEAST_OUTPUT {
-        return answers::refused(station, Refusal::OutputTooShort);
-    }
-    let elapsed = ticks::elapsed(reading, station.clock);
-    if LONGEST_GAP < elapsed {
-        return answers::refused(station, Refusal::TickGap);
-    }
-    ticks::run(station, reading, elapsed, out)
 }
 
 // The control pilot is at a state, at a clock reading.

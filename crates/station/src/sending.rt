@@ -1,42 +1,27 @@
 // The replies to a car, sent.
 use crate::answers;
+use ends::Indication;
 use messages::CarAddress;
 use messages::GroupValues;
 use messages::Message;
 use messages::RunId;
-use messages::Written;
 use receiving::reply;
 use records::report;
-use rules::Indication;
 use rules::Record;
 use rules::RecordArray;
 use rules::State;
 use rules::Station;
 use rules::Stepped;
-ghost use mathlib.Core.Path.{_≡_};
 ghost use mathlib.Core.List.{[], _∷_};
 ghost use lib.ListN.{length};
 ghost use Rattle.messages.specs.Answers.{messageOf};
-ghost use Rattle.messages.specs.Octets.{splice};
 ghost use Rattle.messages.specs.Reading.{yes};
 ghost use Rattle.messages.specs.Writing as writing;
 ghost use Rattle.rules.specs.Invariant.{GoodRecord};
 ghost use Rattle.rules.specs.Replies.{parmCnf, matchCnf, reportOf, framesTo};
 ghost use Rattle.rules.specs.Stations.{done};
-ghost use Rattle.station.specs.Frames.{Writable, Ready, Comes};
-
-// Writes a message that can be written from the output's first octet, and gives its octets' number.
-fn send(message: Message, values: GroupValues, out: &mut [u8]) -> usize
-    requires { ⌜ Writable (messageOf message values) (length (now out)) ⌝ }
-    ensures { λ n. ⌜ n ≡ length (writing.frame (messageOf message values)) ⌝ }
-    ensures { λ n. ⌜ now (out .exit) ≡ splice 0 (writing.frame (messageOf message values)) (now (out .entry)) ⌝ }
-{
-    let written = messages::write(message, values, out);
-    let Written::Octets(octets) = written else {
-        return 0;
-    };
-    octets
-}
+ghost use Rattle.ends.specs.Sending.{Writable};
+ghost use Rattle.station.specs.Frames.{Ready, Comes};
 
 // The station in a state and with records, and one frame sent.
 fn sent(
@@ -52,8 +37,11 @@ fn sent(
 {
     let pilot = station.pilot;
     let next = answers::anew(station, pilot, station.clock, state, records);
-    let octets = send(message, values, out);
-    answers::done(next, 1, octets, Indication::Nothing)
+    let answer = ends::send(message, values, Indication::Nothing, out);
+    Stepped {
+        station: next,
+        answer: answer,
+    }
 }
 
 // PARM.CNF to a car, with the records after it.

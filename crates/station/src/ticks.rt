@@ -1,24 +1,15 @@
 // A tick in each state of a station that is well configured.
 use crate::all_records;
 use crate::answers;
-use records::timers;
-use rules::Indication;
+use ends::Indication;
 use rules::REPORT_OCTETS;
 use rules::State;
 use rules::Station;
 use rules::Stepped;
 ghost use mathlib.Core.Path.{_≡_};
-ghost use Rattle.rules.specs.Ticks as rule;
 ghost use Rattle.rules.specs.Ticks.{tickDone};
 ghost use Rattle.station.specs.Steps.{doneAs, sharedAs, anew, Gives};
 ghost use Rattle.station.specs.Reports.{Ready};
-
-// The time between two readings of a clock that wraps.
-pub(crate) fn elapsed(reading: u32, last: u32) -> u32
-    ensures { λ e. ⌜ e ≡ rule.elapsed reading last ⌝ }
-{
-    std::num::wrapping_sub_u32(reading, last)
-}
 
 // What so many milliseconds come to in the station's state.
 pub(crate) fn run(station: Station, reading: u32, elapsed: u32, out: &mut [u8]) -> Stepped
@@ -34,7 +25,7 @@ pub(crate) fn run(station: Station, reading: u32, elapsed: u32, out: &mut [u8]) 
             car,
             run,
         } => {
-            let left = timers::left_after(time, elapsed);
+            let left = ends::left_after(time, elapsed);
             if left == 0 {
                 read(station, reading, State::Unmatched, Indication::NoLink)
             } else {
@@ -77,7 +68,7 @@ fn matching(station: Station, reading: u32, elapsed: u32, time: u32, out: &mut [
     let sent = ticked.reports;
     let octets = REPORT_OCTETS * sent;
     let frames = sent as u8;
-    let left = timers::left_after(time, elapsed);
+    let left = ends::left_after(time, elapsed);
     let none = all_records::none_held(after);
     if (left == 0) & none {
         let next = answers::anew(station, pilot, reading, State::Unmatched, after);

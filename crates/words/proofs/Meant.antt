@@ -11,11 +11,11 @@ use Rattle.rules.specs.declared.Record.{Record}
 use Rattle.rules.specs.declared.Station.{Station}
 use Rattle.rules.specs.Constants.{recordCount}
 use Rattle.rules.specs.Invariant.{InPhase, GoodRecord, GoodConfiguration, Invariant}
-use Rattle.rules.specs.Lists.{All}
+use Rattle.ends.specs.Lists.{All}
 use Rattle.rules.specs.Records.{isHeld}
 use Rattle.rules.specs.Rules.{isGood, freeRecord, configured}
 use Rattle.rules.proofs.InvariantKept.{configured-keeps}
-use Rattle.rules.proofs.Logic.{split}
+use Rattle.ends.proofs.Logic.{split}
 use Rattle.words.specs.Words.{headCount, width, runs, phaseOf, profilesOf, sumsOf, recordOf, recordsOf, configOf, stateOf, stationOf}
 use Rattle.rules.specs.Numbers.{pilotOf}
 

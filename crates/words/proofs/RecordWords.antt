@@ -14,7 +14,8 @@ use Rattle.messages.specs.declared.CarAddress.{CarAddress}
 use Rattle.rules.specs.declared.Phase.{Phase}
 use Rattle.rules.specs.declared.Phase.the-variants.{Asked, Sounding, Reported, Awaiting}
 use Rattle.rules.specs.declared.Record.{Record}
-use Rattle.rules.specs.Constants.{soundCount, recordCount}
+use Rattle.ends.specs.Constants.{soundCount}
+use Rattle.rules.specs.Constants.{recordCount}
 use Rattle.rules.specs.Invariant.{InPhase, GoodRecord}
 use Rattle.rules.specs.Records.{isHeld}
 use Rattle.words.specs.Words.{headCount, width, wordCount, sumCount, runs, phaseOf, profilesOf, mostSum, sumsOf, recordOf, recordsOf}

@@ -11,7 +11,7 @@ use Rattle.rules.specs.declared.Record.{Record}
 use Rattle.rules.specs.Constants.{recordCount}
 use Rattle.rules.specs.Records.{sameCar, isHeld, holds}
 use Rattle.rules.specs.Rules.{freeRecord}
-use Rattle.rules.proofs.ListLaws.{drop-next, only-none, only-yes, only-no}
+use Rattle.ends.proofs.ListLaws.{drop-next, only-none, only-yes, only-no}
 use Rattle.records.specs.declared.find.Found.{Found}
 use Rattle.records.specs.declared.find.Found.the-variants.{Own, Nothing}
 use Rattle.records.specs.Places.{orFree, placeOf}

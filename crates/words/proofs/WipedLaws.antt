@@ -1,27 +1,24 @@
 -- A station of zeros is badly configured, so that it answers 16 to everything.
 use Prim.Native.Nat.{ℕ}
-use mathlib.Core.Path.{_≡_, refl, sym, ap, ap₂, _∙_}
+use mathlib.Core.Path.{_≡_, refl, ap, _∙_}
 use mathlib.Core.Bool.{false}
 use mathlib.Core.List.{List}
 use lib.ListN.{replicate}
 use Rattle.messages.specs.declared.CarAddress.{CarAddress}
-use Rattle.messages.specs.Reading.{no, check}
+use Rattle.messages.specs.Reading.{no}
 use Rattle.rules.specs.declared.Station.{Station}
-use Rattle.rules.specs.Calls.{Call, frame, tick, pilot, terminate, linkUp}
-use Rattle.rules.specs.Frames.{admitted}
-use Rattle.rules.specs.Rules.{rule, outcome, soundsHeard}
-use Rattle.rules.specs.Ticks.{tickElapsed}
+use Rattle.rules.specs.Calls.{Call}
+use Rattle.rules.specs.Rules.{outcome, soundsHeard}
+use Rattle.rules.specs.Stations.{shared, inner}
+use Rattle.rules.proofs.ReachableHolds.{bad-refuses}
+use Rattle.ends.specs.Outcomes.{outcomeOf}
 use Rattle.words.specs.Words.{wordCount, sumCount, configOf, stationOf}
 use Rattle.words.specs.Wiped.{Wiped}
 
 -- a badly configured station refuses every call with 16
-bad-refuses : (s : Station) (x : Call) → s .config .good ≡ false → outcome s x ≡ no 16
-unfolding outcome rule admitted tickElapsed
-bad-refuses s (frame f room) h = rw h
-bad-refuses s (tick t room) h = rw h
-bad-refuses s (pilot p t) h = rw h
-bad-refuses s terminate h = rw h
-bad-refuses s linkUp h = rw h
+bad-outcome : (s : Station) (x : Call) → s .config .good ≡ false → outcome s x ≡ no 16
+unfolding outcome
+bad-outcome s x h = ap outcomeOf (bad-refuses (shared s) (inner s) x h)
 
 -- and the query
 bad-query : (s : Station) (c : CarAddress) → s .config .good ≡ false → soundsHeard s c ≡ no 16
@@ -38,6 +35,6 @@ wiped v t e f =
     record {
       words = e;
       sums = f;
-      calls = λ x. bad-refuses (stationOf v t) x bad;
+      calls = λ x. bad-outcome (stationOf v t) x bad;
       query = λ c. bad-query (stationOf v t) c bad;
     }

@@ -12,8 +12,9 @@ use Rattle.rules.specs.declared.Record.{Record}
 use Rattle.rules.specs.declared.State.{State}
 use Rattle.rules.specs.declared.State.the-variants.{Unmatched, Matching, Joining, Matched}
 use Rattle.rules.specs.declared.Station.{Station}
-use Rattle.rules.specs.Constants.{askedTime, soundingTime, reportedTime, awaitingTime, retryCount, soundCount, recordCount}
-use Rattle.rules.specs.Lists.{only}
+use Rattle.ends.specs.Constants.{retryCount, soundCount}
+use Rattle.rules.specs.Constants.{askedTime, soundingTime, reportedTime, awaitingTime, recordCount}
+use Rattle.ends.specs.Lists.{only}
 use Rattle.rules.specs.Numbers.{pilotOf}
 use Rattle.rules.specs.Records.{isHeld}
 use Rattle.rules.specs.Rules.{isGood}

@@ -1,4 +1,6 @@
 // Single fields: the numbers that a word may mean, and the numbers that are written.
+use ends::RETRIES;
+use ends::SOUNDS;
 use messages::CarAddress;
 use messages::RunId;
 use rules::ASKED_TIME;
@@ -6,13 +8,11 @@ use rules::AWAITING_TIME;
 use rules::Phase;
 use rules::Pilot;
 use rules::REPORTED_TIME;
-use rules::RETRIES;
 use rules::SOUNDING_TIME;
-use rules::SOUNDS;
 use rules::State;
 ghost use mathlib.Core.Path.{_≡_};
 ghost use Prim.Native.Nat.{_*_, _^_, _%_, _<_, min, max};
-ghost use Rattle.rules.specs.Constants.{soundCount};
+ghost use Rattle.ends.specs.Constants.{soundCount};
 ghost use Rattle.words.specs.Words.{timeWithin, phaseOf, profilesOf, mostSum, stateBy};
 ghost use Rattle.words.specs.Written.{flagOf, phaseNumber, phaseRetries, stateTime, stateCar, stateRun, pilotNumber};
 

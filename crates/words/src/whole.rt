@@ -8,7 +8,7 @@ use rules::Station;
 ghost use mathlib.Core.Path.{_≡_};
 ghost use lib.ListN.{length};
 ghost use Rattle.rules.specs.Invariant.{GoodRecord, Invariant};
-ghost use Rattle.rules.specs.Lists.{All};
+ghost use Rattle.ends.specs.Lists.{All};
 ghost use Rattle.words.specs.Words.{wordCount, sumCount, recordsOf, stationOf, withRecords};
 ghost use Rattle.words.specs.Wiped.{Wiped};
 

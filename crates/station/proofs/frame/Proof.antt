@@ -1,7 +1,7 @@
 -- `station::frame` meets its contract: what judging refuses, and what the request comes to.
 use Rattle.messages.specs.Reading.{Checked, groupsOf, readRules}
 use Rattle.rules.specs.Calls as calls
-use Rattle.rules.specs.Outcomes.{andThen}
+use Rattle.ends.specs.Outcomes.{andThen}
 use Rattle.station.proofs.ComesLaws.{promised}
 use Rattle.receiving.proofs.JudgeLaws.{taken, frame-judged, judges}
 use Rattle.station.proofs.StepLaws.{refuses}

@@ -1,6 +1,6 @@
 -- `lahzavar::answers::answered` meets its contract, by the answer.
 use Rattle.lahzavar.specs.Answers.{saidOf}
-use Rattle.rules.specs.Answers.{answerOf}
+use Rattle.ends.specs.Answers.{answerOf}
 use borrow.Author.Needs.{needs}
 use mathlib.Core.Path.{sym, ap, _∙_}
 use Rattle.lahzavar.proofs.answers.answered.Statement.{statement}

@@ -6,7 +6,7 @@ use Rattle.messages.specs.Writing as writing
 use Rattle.rules.specs.Replies.{frameTo}
 use Rattle.rules.specs.Stations.{done}
 use Rattle.rules.specs.declared.Configuration.{Configuration}
-use Rattle.rules.specs.declared.Indication.the-variants.{Nothing}
+use Rattle.ends.specs.declared.Indication.the-variants.{Nothing}
 use Rattle.words.specs.Words.{stationOf}
 use lib.ListN.{length, set}
 use mathlib.Core.List.{[], _∷_}

@@ -1,5 +1,5 @@
--- The record that `put_record` stores, and the frame that `send` writes.
-use Rattle.lahzavar.proofs.FrameLaws.{comes-stored}
+-- The record that `put_record` stores, and the message that `send` sends.
+use Rattle.lahzavar.proofs.FrameLaws.{comes-sent}
 use borrow.Author.Needs.{needs}
 use Rattle.lahzavar.proofs.frames.sent.Statement.{statement}
 use Rattle.lahzavar.proofs.frames.sent.Tie as tie
@@ -10,13 +10,18 @@ put-record-requires c κs = search needs
 send-requires : tie.Need-send-requires
 send-requires c κs = search needs
 
+answered-requires : tie.Need-answered-requires
+answered-requires c κs = search needs
+
 same-length : tie.Need-same-length
 same-length c = search needs
 
 returns : tie.Need-returns
 returns c =
-    let a = c .before .before .before .before .before .before .before .before .args in
-    comes-stored (a .words .now) (a .sums .now) (a .out .now) _ _ _ (a .i) (a .r) _ (c .before .before .send .result) (c .before .before .before .before .put-record .ensures) (c .before .before .send .ensures .answer) (c .before .before .send .ensures .octets)
+    let s = c .before .before .before .before .before .before .before .before .before in
+    let a = s .args in
+    let sent = c .before .before .before .send in
+    comes-sent (a .words .now) (a .sums .now) (a .out .now) _ _ _ (a .i) (a .r) _ (sent .result) (c .answered .result) (s .pre .1) (c .before .before .before .before .before .put-record .ensures) (sent .ensures) (c .answered .ensures)
 
 pub sent-spec : {M : Type 1} → statement M
-sent-spec = tie.close (tie.spec put-record-requires send-requires same-length returns)
+sent-spec = tie.close (tie.spec put-record-requires send-requires answered-requires same-length returns)

@@ -4,7 +4,7 @@ use Rattle.records.specs.Requests.{effectOf}
 use Rattle.records.specs.declared.requests.Effect.{Effect}
 use Rattle.rules.specs.Invariant.{GoodRecord}
 use Rattle.rules.specs.Stations.{done}
-use Rattle.rules.specs.declared.Indication.the-variants.{Nothing}
+use Rattle.ends.specs.declared.Indication.the-variants.{Nothing}
 use Rattle.rules.specs.declared.Record.{Record}
 use Rattle.station.specs.Frames.{KeepsGood, settled}
 use Rattle.words.specs.Words.{stationOf}

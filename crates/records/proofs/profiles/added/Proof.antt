@@ -2,7 +2,7 @@
 use Prim.Native.Nat.{_*_, _-_}
 use Rattle.records.proofs.LoopLaws.{Adding, adding-start, adding-next, adding-end}
 use Rattle.rules.proofs.IndexLaws.{passed}
-use Rattle.rules.specs.Constants.{soundCount}
+use Rattle.ends.specs.Constants.{soundCount}
 use borrow.Author.Needs.{needs}
 use lib.ListN.{length}
 use native.Mathlib.Omega.{arith}

@@ -1,7 +1,7 @@
 -- `records::requests::sound` meets its contract: in Sounding a count that is below the number of sounds and not heard is marked.
 use Prim.Native.Nat.{ℕ}
 use Rattle.records.proofs.RequestLaws.{refuses, silent, sound-elsewhere, sound-new, sound-known}
-use Rattle.rules.specs.Constants.{soundCount}
+use Rattle.ends.specs.Constants.{soundCount}
 use Rattle.rules.specs.Records.{withHeard}
 use borrow.Author.Needs.{needs}
 use lib.Dec.{ltb}

@@ -3,7 +3,7 @@ use Rattle.messages.specs.Reading.{yes}
 use Rattle.rules.specs.Records.{owned}
 use Rattle.rules.specs.Replies.{parmCnf, framesTo}
 use Rattle.rules.specs.Stations.{done}
-use Rattle.rules.specs.declared.Indication.the-variants.{Nothing}
+use Rattle.ends.specs.declared.Indication.the-variants.{Nothing}
 use Rattle.rules.specs.declared.Record.{Record}
 use Rattle.station.proofs.ComesLaws.{comes-as}
 use lib.ListN.{set}

@@ -9,7 +9,7 @@ use Rattle.rules.specs.Invariant.{GoodRecord}
 use Rattle.rules.specs.declared.Record.{Record}
 use Rattle.station.proofs.ComesLaws.{comes-as, comes-refused, state-other}
 use Rattle.station.proofs.OwnLaws.{own-none, own-settled}
-use Rattle.rules.proofs.ListLaws.{all-at}
+use Rattle.ends.proofs.ListLaws.{all-at}
 use Rattle.station.proofs.KeptLaws.{kept-good}
 use borrow.Author.Needs.{needs}
 use lib.ListN.{getD, length}

@@ -5,7 +5,8 @@ use Rattle.records.proofs.LoopLaws.{length-mapped}
 use Rattle.records.proofs.PlaceLaws.{OwnAt, found, not-own}
 use Rattle.records.specs.Requests.{verdictOf}
 use Rattle.records.specs.declared.find.Found.the-variants.{Own}
-use Rattle.rules.specs.Constants.{recordCount, joiningTime}
+use Rattle.ends.specs.Constants.{joiningTime}
+use Rattle.rules.specs.Constants.{recordCount}
 use Rattle.rules.specs.Frames.{confirmed}
 use Rattle.rules.specs.declared.Record.{Record}
 use Rattle.rules.specs.declared.State.the-variants.{Joining}

@@ -1,6 +1,6 @@
 -- `station::frames::parm_req` meets its contract, by what is answered of the place.
 use Rattle.messages.specs.declared.Refusal.the-variants.{WrongState}
-use Rattle.rules.specs.Outcomes.{andThen}
+use Rattle.ends.specs.Outcomes.{andThen}
 use Rattle.station.proofs.ComesLaws.{comes-as, comes-refused, state-other}
 use Rattle.station.proofs.ParmLaws.{admits, parm-answered, parm-inside}
 use Rattle.receiving.specs.AtRecord.{admissionOf}

@@ -5,7 +5,7 @@ use Rattle.records.specs.declared.requests.Effect.{Effect}
 use Rattle.rules.specs.Invariant.{GoodRecord}
 use Rattle.rules.specs.Replies.{reportOf, framesTo}
 use Rattle.rules.specs.Stations.{done}
-use Rattle.rules.specs.declared.Indication.the-variants.{Nothing}
+use Rattle.ends.specs.declared.Indication.the-variants.{Nothing}
 use Rattle.rules.specs.declared.Record.{Record}
 use Rattle.station.proofs.ComesLaws.{comes-as, comes-refused, comes-silent}
 use Rattle.station.proofs.OwnLaws.{settled-report}

@@ -5,7 +5,7 @@ use Rattle.messages.specs.Table as table
 use Rattle.messages.specs.Writing as writing
 use Rattle.rules.specs.Replies.{frameTo}
 use Rattle.rules.specs.Stations.{done}
-use Rattle.rules.specs.declared.Indication.the-variants.{Nothing}
+use Rattle.ends.specs.declared.Indication.the-variants.{Nothing}
 use Rattle.station.proofs.ComesLaws.{comes-as}
 use lib.ListN.{length}
 use mathlib.Core.List.{[], _∷_}

@@ -1,6 +1,6 @@
 -- `words::fields::profiles` meets its contract, by the phase.
 use Prim.Native.Nat.{min}
-use Rattle.rules.specs.Constants.{soundCount}
+use Rattle.ends.specs.Constants.{soundCount}
 use Rattle.words.specs.Words.{profilesOf}
 use borrow.Author.Needs.{needs}
 use mathlib.Core.Path.{sym, ap, _∙_}

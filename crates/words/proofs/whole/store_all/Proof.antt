@@ -1,6 +1,6 @@
 -- `words::whole::store_all` meets its contract: the records before i are stored.
 use Prim.Native.Nat.{_-_}
-use Rattle.rules.proofs.ListLaws.{all-at}
+use Rattle.ends.proofs.ListLaws.{all-at}
 use Rattle.rules.specs.Constants.{recordCount}
 use Rattle.rules.specs.Invariant.{GoodRecord}
 use Rattle.words.proofs.WholeLaws.{StoredSo, stored-start, stored-next, stored-end}

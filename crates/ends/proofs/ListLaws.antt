@@ -7,8 +7,8 @@ use native.Mathlib.Omega.{arith}
 use native.Mathlib.Numerals.{add-one}
 use lib.ListN.{length, drop, getD, length-append, replicate}
 use lib.Seq.{drop-cons}
-use Rattle.rules.specs.Lists.{only, All, Permuted, joins}
-use Rattle.rules.proofs.Logic.{split, no-cons}
+use Rattle.ends.specs.Lists.{only, All, Permuted, joins}
+use Rattle.ends.proofs.Logic.{split, no-cons}
 
 module _ {A : Type 0} where
   pub first-same : (x y : A) (xs ys : List A) → x ∷ xs ≡ y ∷ ys → x ≡ y

@@ -2,8 +2,8 @@
 use Prim.Native.Nat.{ℕ}
 use mathlib.Core.List.{List, []}
 use Rattle.messages.specs.Reading.{Checked, no, yes}
-use Rattle.rules.specs.declared.Indication.{Indication}
-use Rattle.rules.specs.Lists.{joins}
+use Rattle.ends.specs.declared.Indication.{Indication}
+use Rattle.ends.specs.Lists.{joins}
 
 -- the frames that a call reports, each as its octets, and its indication
 pub record Sent : Type 0 where
@@ -28,3 +28,19 @@ module _ {A B : Type 0} where
   abbrev pub andThen : Checked A → (A → Checked B) → Checked B
   andThen (no n) f = no n
   andThen (yes x) f = f x
+
+-- what an accepted call does: what it leaves, and what it gives
+pub record Done (S : Type 0) : Type 0 where
+  pub after : S
+  pub sent : Sent
+
+module _ {S : Type 0} where
+  -- what a call leaves of s: "each refusal changes neither station nor output"
+  abbrev pub next : S → Checked (Done S) → S
+  next s (no n) = s
+  next s (yes d) = d .after
+
+  -- what a call gives
+  abbrev pub outcomeOf : Checked (Done S) → Outcome
+  outcomeOf (no n) = no n
+  outcomeOf (yes d) = yes (d .sent)

@@ -1,0 +1,5 @@
+pub mod Logic
+pub mod ListLaws
+pub mod AnswerLaws
+pub mod ClockLaws
+pub mod SendLaws

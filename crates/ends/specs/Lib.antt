@@ -1,0 +1,6 @@
+pub mod Lists
+pub mod Constants
+pub mod Outcomes
+pub mod Clock
+pub mod Answers
+pub mod Sending
