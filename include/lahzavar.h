@@ -3,7 +3,7 @@
  *
  * A driver keeps one struct lahzavar_station for each outlet, configures it, and hands it every event: frames from the
  * modem, clock readings, pilot states, terminate and link up. The answer says which frames to send, and whether the link
- * is established or the matching has failed. Link with liblahzavar.a.
+ * is established or the matching has failed. Link with liblahzavar.a; docs/INTEGRATION.md is the guide for a board.
  *
  * What a caller owes, and all that it owes:
  * - The station was configured before its first other call, and nothing but these calls writes it.
@@ -11,8 +11,8 @@
  * - Frame and output are memory of the caller, of at least the lengths given, and overlap neither each other nor the
  *   station. A driver that receives and sends in one buffer lends two parts of it.
  *
- * Every call comes back, for any octets, any length and any number. A refused call changes neither station nor output.
- * No call allocates, blocks, or keeps a pointer.
+ * Every call comes back, for any octets, any length and any number; NULL stands for no octets, and for a station that was
+ * never configured. A refused call changes neither station nor output. No call allocates, blocks, or keeps a pointer.
  */
 #ifndef LAHZAVAR_H
 #define LAHZAVAR_H
@@ -24,8 +24,12 @@
 extern "C" {
 #endif
 
-/* The version of this header, 0.1.0: major * 65536 + minor * 256 + patch. */
-#define LAHZAVAR_VERSION 256u
+/* The version of this header. */
+#define LAHZAVAR_MAJOR 0
+#define LAHZAVAR_MINOR 2
+#define LAHZAVAR_PATCH 0
+/* The same as one number, which lahzavar_version() gives of the library. */
+#define LAHZAVAR_VERSION (65536u * LAHZAVAR_MAJOR + 256u * LAHZAVAR_MINOR + LAHZAVAR_PATCH)
 
 /* The most cars that are in matching at once. */
 #define LAHZAVAR_RECORDS 5
@@ -57,9 +61,54 @@ enum lahzavar_refusal {
     LAHZAVAR_BAD_SOUND_COUNT = 13,   /* a sound count over 9, or heard already */
     LAHZAVAR_TICK_GAP = 14,          /* more than 60,000 ms since the last reading */
     LAHZAVAR_OUTPUT_TOO_SHORT = 15,  /* less room than LAHZAVAR_LEAST_OUTPUT */
-    LAHZAVAR_BAD_CONFIGURATION = 16, /* the station was badly configured */
+    LAHZAVAR_BAD_CONFIGURATION = 16, /* the station was badly configured, wiped, or NULL */
     LAHZAVAR_ONLY_FOR_CARS = 17      /* a message that only a car receives */
 };
+
+/* A refusal as a sentence, for a log; 0 and numbers of a later library have one too. */
+static inline const char *lahzavar_refusal_text(uint32_t refusal)
+{
+    switch (refusal) {
+    case LAHZAVAR_ACCEPTED:
+        return "accepted";
+    case LAHZAVAR_TOO_SHORT:
+        return "the frame ends before its payload does";
+    case LAHZAVAR_BAD_HEAD:
+        return "the frame is no HomePlug management message of version 1, or a fragment of one";
+    case LAHZAVAR_UNKNOWN_TYPE:
+        return "the message is none of those of SLAC matching";
+    case LAHZAVAR_TOO_LONG:
+        return "the frame is longer than its message; is its check sequence still there?";
+    case LAHZAVAR_BAD_ADDRESS:
+        return "the source, the destination or the profile's car is an address of the wrong kind";
+    case LAHZAVAR_BAD_OCTET:
+        return "an octet of the payload is not what the standard fixes";
+    case LAHZAVAR_NOT_FOR_US:
+        return "the frame is for another station, from another modem, or from ourselves";
+    case LAHZAVAR_WRONG_STATE:
+        return "the station's state takes no such event";
+    case LAHZAVAR_ADMISSION_CLOSED:
+        return "a new car asks after the end of admission";
+    case LAHZAVAR_RECORDS_FULL:
+        return "a new car asks while other cars hold every record";
+    case LAHZAVAR_NO_RECORD:
+        return "the car holds no record, or one of another run";
+    case LAHZAVAR_WRONG_PHASE:
+        return "the car's record is in another phase";
+    case LAHZAVAR_BAD_SOUND_COUNT:
+        return "the sound's count is too high, or was heard already";
+    case LAHZAVAR_TICK_GAP:
+        return "the clock is more than 60 seconds past the last reading that was taken";
+    case LAHZAVAR_OUTPUT_TOO_SHORT:
+        return "the output is too short";
+    case LAHZAVAR_BAD_CONFIGURATION:
+        return "the configuration is bad, or there is none";
+    case LAHZAVAR_ONLY_FOR_CARS:
+        return "only a car receives this message";
+    default:
+        return "a refusal that this version does not know";
+    }
+}
 
 /* What the charge controller is to be told. */
 enum lahzavar_indication {
@@ -106,6 +155,26 @@ struct lahzavar_heard {
     uint32_t sounds;
 };
 
+/* That the compiler lays these out as the library does: checked where the language can. */
+#if defined(__cplusplus) && __cplusplus >= 201103L
+#define LAHZAVAR_CHECK(what, says) static_assert(what, says);
+#define LAHZAVAR_ALIGNMENT(type) alignof(type)
+#elif !defined(__cplusplus) && defined(__STDC_VERSION__) && __STDC_VERSION__ >= 201112L
+#define LAHZAVAR_CHECK(what, says) _Static_assert(what, says);
+#define LAHZAVAR_ALIGNMENT(type) _Alignof(type)
+#endif
+#ifdef LAHZAVAR_CHECK
+LAHZAVAR_CHECK(sizeof(struct lahzavar_answer) == 16, "an answer is four numbers of 32 bits")
+LAHZAVAR_CHECK(sizeof(struct lahzavar_heard) == 8, "a query's answer is two numbers of 32 bits")
+LAHZAVAR_CHECK(offsetof(struct lahzavar_station, private_sums) == 8 * LAHZAVAR_WORDS, "a station's words stand back to back")
+LAHZAVAR_CHECK(sizeof(struct lahzavar_station) >= 8 * LAHZAVAR_WORDS + 2 * LAHZAVAR_SUMS,
+               "a station holds its words and sums")
+LAHZAVAR_CHECK(LAHZAVAR_ALIGNMENT(struct lahzavar_station) >= LAHZAVAR_ALIGNMENT(uint64_t),
+               "a station is aligned as its words")
+#undef LAHZAVAR_CHECK
+#undef LAHZAVAR_ALIGNMENT
+#endif
+
 /*
  * What the library exports. Use the functions below instead, which take a struct lahzavar_station and allow NULL for no
  * octets; a pointer passed here is never NULL.
@@ -118,6 +187,7 @@ struct lahzavar_answer lahzavar_tick(uint64_t *words, uint16_t *sums, uint32_t r
 struct lahzavar_answer lahzavar_pilot(uint64_t *words, uint16_t *sums, uint32_t pilot, uint32_t reading);
 struct lahzavar_answer lahzavar_terminate(uint64_t *words, uint16_t *sums);
 struct lahzavar_answer lahzavar_link_up(uint64_t *words, uint16_t *sums);
+void lahzavar_wipe(uint64_t *words, uint16_t *sums);
 struct lahzavar_heard lahzavar_sounds_heard(const uint64_t *words, const uint16_t *sums, uint64_t car);
 uint32_t lahzavar_state(const uint64_t *words);
 uint32_t lahzavar_records_held(const uint64_t *words);
@@ -133,42 +203,64 @@ static inline int lahzavar_library_fits(void)
            lahzavar_sums() == LAHZAVAR_SUMS && lahzavar_least_output() == LAHZAVAR_LEAST_OUTPUT;
 }
 
-/* The number that so many octets stand for, at most eight, the first one most significant. */
+/* The number that so many octets stand for, at most eight, the first one most significant; 0 for NULL. */
 static inline uint64_t lahzavar_number(const uint8_t *octets, size_t count)
 {
     uint64_t number = 0;
     size_t at;
-    for (at = 0; at < count; at++) {
+    for (at = 0; octets != NULL && at < count; at++) {
         number = number << 8 | octets[at];
     }
     return number;
 }
 
-/* An address as a number, from its six octets as they stand in a frame. */
+/* An address as a number, from its six octets as they stand in a frame; 0, which is no address, for NULL. */
 static inline uint64_t lahzavar_address(const uint8_t octets[6])
 {
     return lahzavar_number(octets, 6);
 }
 
-/* A NID as a number, from its seven octets as they stand in a frame: low octet first. */
+/* A NID as a number, from its seven octets as they stand in a frame: low octet first. NULL gives one that is refused. */
 static inline uint64_t lahzavar_nid(const uint8_t octets[7])
 {
-    uint64_t number = 0;
+    uint64_t number = octets != NULL ? 0 : UINT64_MAX;
     size_t at;
-    for (at = 7; at > 0; at--) {
+    for (at = 7; octets != NULL && at > 0; at--) {
         number = number << 8 | octets[at - 1];
     }
     return number;
 }
 
+/* The answer of a station that is NULL. */
+static inline struct lahzavar_answer lahzavar_no_station(void)
+{
+    struct lahzavar_answer answer = {LAHZAVAR_BAD_CONFIGURATION, LAHZAVAR_NO_INDICATION, 0, 0};
+    return answer;
+}
+
+/*
+ * Wipes a station, its NMK too: it answers LAHZAVAR_BAD_CONFIGURATION to everything until it is configured again. This is
+ * a call of the library, which no compiler leaves out.
+ */
+static inline void lahzavar_station_wipe(struct lahzavar_station *station)
+{
+    if (station != NULL) {
+        lahzavar_wipe(station->private_words, station->private_sums);
+    }
+}
+
 /*
  * Configures a station: Unmatched, no records, pilot state A, clock reading 0. Refused with LAHZAVAR_BAD_CONFIGURATION
- * unless both addresses are unicast and differ and the NID is below 2^54; the station then answers that to everything.
- * ISO 15118-3 wants a fresh NMK for each plug-in, so configure anew before each.
+ * unless both addresses are unicast and differ, the NID is below 2^54 and there is an NMK; the station then answers that
+ * to everything. ISO 15118-3 wants a fresh NMK for each plug-in, so configure anew before each.
  */
 static inline struct lahzavar_answer lahzavar_station_configure(struct lahzavar_station *station, uint64_t address,
                                                                 uint64_t modem, uint64_t nid, const uint8_t nmk[16])
 {
+    if (station == NULL || nmk == NULL) {
+        lahzavar_station_wipe(station);
+        return lahzavar_no_station();
+    }
     return lahzavar_configure(station->private_words, station->private_sums, address, modem, nid, lahzavar_number(nmk, 8),
                               lahzavar_number(nmk + 8, 8));
 }
@@ -179,6 +271,9 @@ static inline struct lahzavar_answer lahzavar_station_frame(struct lahzavar_stat
 {
     static const uint8_t no_octets = 0;
     uint8_t no_room = 0;
+    if (station == NULL) {
+        return lahzavar_no_station();
+    }
     return lahzavar_frame(station->private_words, station->private_sums, octets != NULL ? octets : &no_octets,
                           octets != NULL ? length : 0, out != NULL ? out : &no_room, out != NULL ? room : 0);
 }
@@ -188,45 +283,52 @@ static inline struct lahzavar_answer lahzavar_station_tick(struct lahzavar_stati
                                                            size_t room)
 {
     uint8_t no_room = 0;
+    if (station == NULL) {
+        return lahzavar_no_station();
+    }
     return lahzavar_tick(station->private_words, station->private_sums, reading, out != NULL ? out : &no_room,
                          out != NULL ? room : 0);
 }
 
 /* The control pilot's state, at each change, with the clock's reading. */
-static inline struct lahzavar_answer lahzavar_station_pilot(struct lahzavar_station *station, uint32_t pilot,
-                                                            uint32_t reading)
+static inline struct lahzavar_answer lahzavar_station_pilot(struct lahzavar_station *station,
+                                                            enum lahzavar_pilot_state pilot, uint32_t reading)
 {
-    return lahzavar_pilot(station->private_words, station->private_sums, pilot, reading);
+    if (station == NULL) {
+        return lahzavar_no_station();
+    }
+    return lahzavar_pilot(station->private_words, station->private_sums, (uint32_t)pilot, reading);
 }
 
 /* Ends the matching or the link; a new matching begins with the next plug-in. */
 static inline struct lahzavar_answer lahzavar_station_terminate(struct lahzavar_station *station)
 {
-    return lahzavar_terminate(station->private_words, station->private_sums);
+    return station == NULL ? lahzavar_no_station() : lahzavar_terminate(station->private_words, station->private_sums);
 }
 
 /* The modem has a link in the station's network. */
 static inline struct lahzavar_answer lahzavar_station_link_up(struct lahzavar_station *station)
 {
-    return lahzavar_link_up(station->private_words, station->private_sums);
+    return station == NULL ? lahzavar_no_station() : lahzavar_link_up(station->private_words, station->private_sums);
 }
 
 /* How many sounds of a car's run were heard; LAHZAVAR_NO_RECORD where the car holds no record. */
 static inline struct lahzavar_heard lahzavar_station_sounds_heard(const struct lahzavar_station *station, uint64_t car)
 {
-    return lahzavar_sounds_heard(station->private_words, station->private_sums, car);
+    struct lahzavar_heard none = {LAHZAVAR_BAD_CONFIGURATION, 0};
+    return station == NULL ? none : lahzavar_sounds_heard(station->private_words, station->private_sums, car);
 }
 
-/* The state, one of enum lahzavar_state_number. */
+/* The state, one of enum lahzavar_state_number; LAHZAVAR_UNMATCHED for NULL. */
 static inline uint32_t lahzavar_station_state(const struct lahzavar_station *station)
 {
-    return lahzavar_state(station->private_words);
+    return station == NULL ? (uint32_t)LAHZAVAR_UNMATCHED : lahzavar_state(station->private_words);
 }
 
-/* How many records cars hold. */
+/* How many records cars hold; none for NULL. */
 static inline uint32_t lahzavar_station_records_held(const struct lahzavar_station *station)
 {
-    return lahzavar_records_held(station->private_words);
+    return station == NULL ? 0 : lahzavar_records_held(station->private_words);
 }
 
 /* The octets of each frame that an answer reports, all of one length; 0 where it reports none. */

@@ -14,14 +14,10 @@ quietly() {
     "$@" > "$work/log" 2>&1 || { cat "$work/log" >&2; fail "failed: $*"; }
 }
 
-# Finds liblahzavar.a in LAHZAVAR_LIB_DIR, else in target/staticlib, where it is made anew if a source is newer.
+# Finds liblahzavar.a in LAHZAVAR_LIB_DIR, else in target/staticlib, where make writes it anew if a source is newer.
 find_library() {
     if [ -z "${LAHZAVAR_LIB_DIR:-}" ]; then
-        local made=target/staticlib/liblahzavar.a
-        if [ ! -f "$made" ] || [ -n "$(find crates crates.txt -type f -not -path '*/must-fail/*' -newer "$made" -print -quit)" ]; then
-            quietly rt check words station # side by side, where the next command takes them one by one
-            quietly rt staticlib lahzavar
-        fi
+        quietly make
         LAHZAVAR_LIB_DIR=target/staticlib
     fi
     LAHZAVAR_LIB_DIR=$(cd "$LAHZAVAR_LIB_DIR" && pwd)
@@ -42,4 +38,9 @@ in_cargo() {
     local folder=$1
     shift
     (cd "$folder" && CARGO_TARGET_DIR="$work/cargo" RUSTFLAGS="-D warnings" cargo "$@" --offline --locked --quiet)
+}
+
+# finds_link COMMAND..: runs an example, which says on standard output that it has a link, and nothing else.
+finds_link() {
+    [ "$("$@" 2> "$work/log")" = "link established" ] || { cat "$work/log" >&2; fail "no link: $*"; }
 }

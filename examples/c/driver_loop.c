@@ -1,38 +1,47 @@
 /*
- * A driver loop: interrupts put frames, clock readings and pilot states into a small queue; the loop takes them out one by
- * one, hands them to the station, and puts the replies into a send queue. Here two simulated cars stand in for the line:
- * one matches with this station, the other is heard as well but matches with the next station.
+ * A driver loop, in C11: interrupts put frames, clock readings and pilot states into a small queue; the loop takes them out
+ * one by one, hands them to the station, and puts the replies into a send queue. Here two simulated cars stand in for the
+ * line: one matches with this station, the other is heard as well but matches with the next station.
  */
 #include "car_frames.h"
 #include "lahzavar.h"
 
+#include <stdatomic.h>
 #include <stdio.h>
 
-#define QUEUE 32u
+#define QUEUE 32u /* a power of two, so that the counts may wrap */
+#define REFUSALS (LAHZAVAR_ONLY_FOR_CARS + 2)
+
+_Static_assert(ATOMIC_INT_LOCK_FREE == 2, "an interrupt can't wait for a lock");
 
 enum event_kind { EVENT_FRAME, EVENT_CLOCK, EVENT_PILOT, EVENT_LINK };
 
 struct event {
     enum event_kind kind;
-    uint32_t number; /* the clock's reading, or the pilot's state */
+    enum lahzavar_pilot_state pilot;
     uint32_t reading;
     size_t length;
     uint8_t octets[FRAME_MOST];
 };
 
-/* One writer and one reader: the writer moves `put` alone, the reader `taken` alone. */
+/*
+ * One writer and one reader. The writer alone stores `put` and `dropped`, the reader alone `taken`; a store releases the
+ * event's place to the other side, whose load acquires it. Interrupts that write one queue may not interrupt each other.
+ */
 struct queue {
     struct event events[QUEUE];
-    volatile unsigned put;
-    volatile unsigned taken;
-    unsigned dropped;
+    atomic_uint put;
+    atomic_uint taken;
+    atomic_uint dropped; /* events that found no room; a car repeats its frames, but a pilot state has to be put again */
 };
 
 static struct queue received;
 static struct queue to_send;
 static struct lahzavar_station station;
 static uint8_t output[LAHZAVAR_LEAST_OUTPUT];
+static enum lahzavar_pilot_state pilot_now = LAHZAVAR_PILOT_A;
 static uint32_t last_indication;
+static unsigned refused[REFUSALS]; /* by number; the last one counts those of a later library */
 
 static const uint8_t our_address[6] = {2, 0, 0, 0, 0, 0xAA};
 static const uint8_t our_modem[6] = {2, 0, 0, 0, 0, 0xBB};
@@ -40,44 +49,77 @@ static const uint8_t next_station[6] = {2, 0, 0, 0, 0, 0xCC};
 static const uint8_t network_id[7] = {1, 2, 3, 4, 5, 6, 7};
 static const uint8_t network_key[16] = {'a', ' ', 'k', 'e', 'y', ' ', 'f', 'o', 'r', ' ', 't', 'e', 's', 't', 's', '.'};
 
-/* The place for the next event, or NULL where the queue is full: a driver drops the event, and cars repeat themselves. */
-static struct event *place_in(struct queue *queue)
+/* The writer's place for an event with so many octets, or NULL where there is no room for it. */
+static struct event *place_in(struct queue *queue, size_t length)
 {
-    if (queue->put - queue->taken == QUEUE) {
-        queue->dropped++;
+    unsigned put = atomic_load_explicit(&queue->put, memory_order_relaxed);
+    unsigned taken = atomic_load_explicit(&queue->taken, memory_order_acquire);
+    if (length > FRAME_MOST || put - taken == QUEUE) {
+        atomic_fetch_add_explicit(&queue->dropped, 1, memory_order_relaxed);
         return NULL;
     }
-    return &queue->events[queue->put % QUEUE];
+    return &queue->events[put % QUEUE];
 }
 
+/* The writer is done with the place that it has. */
+static void hand_over(struct queue *queue)
+{
+    unsigned put = atomic_load_explicit(&queue->put, memory_order_relaxed);
+    atomic_store_explicit(&queue->put, put + 1, memory_order_release);
+}
+
+/* The reader's next event, or NULL. */
 static const struct event *next_of(struct queue *queue)
 {
-    return queue->put == queue->taken ? NULL : &queue->events[queue->taken % QUEUE];
+    unsigned taken = atomic_load_explicit(&queue->taken, memory_order_relaxed);
+    unsigned put = atomic_load_explicit(&queue->put, memory_order_acquire);
+    return put == taken ? NULL : &queue->events[taken % QUEUE];
+}
+
+/* The reader is done with the event that it has. */
+static void give_back(struct queue *queue)
+{
+    unsigned taken = atomic_load_explicit(&queue->taken, memory_order_relaxed);
+    atomic_store_explicit(&queue->taken, taken + 1, memory_order_release);
+}
+
+static unsigned dropped_by(struct queue *queue)
+{
+    return atomic_load_explicit(&queue->dropped, memory_order_relaxed);
 }
 
 static void put_frame(struct queue *queue, const uint8_t *octets, size_t length)
 {
-    struct event *event = length > FRAME_MOST ? NULL : place_in(queue);
+    struct event *event = place_in(queue, length);
     if (event != NULL) {
         event->kind = EVENT_FRAME;
         event->length = length;
         memcpy(event->octets, octets, length);
-        queue->put++;
+        hand_over(queue);
     }
 }
 
-static void put_number(struct queue *queue, enum event_kind kind, uint32_t number, uint32_t reading)
+static void put_event(struct queue *queue, enum event_kind kind, enum lahzavar_pilot_state pilot, uint32_t reading)
 {
-    struct event *event = place_in(queue);
+    struct event *event = place_in(queue, 0);
     if (event != NULL) {
         event->kind = kind;
-        event->number = number;
+        event->pilot = pilot;
         event->reading = reading;
-        queue->put++;
+        hand_over(queue);
     }
 }
 
-/* Puts each frame of the answer into the send queue, and keeps the indication. */
+/* Counts a refusal, and logs the first one of each number: a refused call has changed nothing. */
+static void count_refusal(uint32_t refusal)
+{
+    uint32_t number = refusal < REFUSALS ? refusal : REFUSALS - 1;
+    if (refused[number]++ == 0) {
+        fprintf(stderr, "refused with %u: %s\n", (unsigned)refusal, lahzavar_refusal_text(refusal));
+    }
+}
+
+/* Puts each frame of the answer into the send queue, keeps the indication, and counts a refusal. */
 static void obey(struct lahzavar_answer answer)
 {
     size_t each = lahzavar_frame_octets(answer);
@@ -88,19 +130,48 @@ static void obey(struct lahzavar_answer answer)
     if (answer.indication != LAHZAVAR_NO_INDICATION) {
         last_indication = answer.indication;
     }
+    if (answer.refusal != LAHZAVAR_ACCEPTED) {
+        count_refusal(answer.refusal);
+    }
 }
 
-static struct lahzavar_answer handle(const struct event *event)
+/* Whether times run in the station: a car is in matching, or joins. */
+static int is_timed(void)
+{
+    uint32_t state = lahzavar_station_state(&station);
+    return state == LAHZAVAR_MATCHING || state == LAHZAVAR_JOINING;
+}
+
+/*
+ * The clock goes on. After a gap of more than 60 seconds in a matching it is not known what happened meanwhile, so that it
+ * ends and begins anew; else the gap does no harm, since the next plug-in or loss takes a reading.
+ */
+static void handle_clock(uint32_t reading)
+{
+    struct lahzavar_answer answer = lahzavar_station_tick(&station, reading, output, sizeof output);
+    obey(answer);
+    if (answer.refusal == LAHZAVAR_TICK_GAP && is_timed()) {
+        obey(lahzavar_station_pilot(&station, LAHZAVAR_PILOT_A, reading));
+        obey(lahzavar_station_pilot(&station, pilot_now, reading));
+    }
+}
+
+static void handle(const struct event *event)
 {
     switch (event->kind) {
     case EVENT_FRAME:
-        return lahzavar_station_frame(&station, event->octets, event->length, output, sizeof output);
+        obey(lahzavar_station_frame(&station, event->octets, event->length, output, sizeof output));
+        break;
     case EVENT_CLOCK:
-        return lahzavar_station_tick(&station, event->number, output, sizeof output);
+        handle_clock(event->reading);
+        break;
     case EVENT_PILOT:
-        return lahzavar_station_pilot(&station, event->number, event->reading);
+        pilot_now = event->pilot;
+        obey(lahzavar_station_pilot(&station, event->pilot, event->reading));
+        break;
     default:
-        return lahzavar_station_link_up(&station);
+        obey(lahzavar_station_link_up(&station));
+        break;
     }
 }
 
@@ -109,9 +180,34 @@ static void handle_received(void)
 {
     const struct event *event;
     while ((event = next_of(&received)) != NULL) {
-        obey(handle(event));
-        received.taken++;
+        handle(event);
+        give_back(&received);
     }
+}
+
+/* Configures the station, and tells it the pilot's state at once: so it takes the clock's reading, whatever that is. */
+static struct lahzavar_answer start(uint32_t reading)
+{
+    struct lahzavar_answer answer = lahzavar_station_configure(
+        &station, lahzavar_address(our_address), lahzavar_address(our_modem), lahzavar_nid(network_id), network_key);
+    obey(answer);
+    obey(lahzavar_station_pilot(&station, pilot_now, reading));
+    return answer;
+}
+
+/* What was dropped and, by number, what was refused. */
+static void report(void)
+{
+    const char *before = " ";
+    unsigned number;
+    fprintf(stderr, "dropped: %u received, %u to send; refused:", dropped_by(&received), dropped_by(&to_send));
+    for (number = 0; number < REFUSALS; number++) {
+        if (refused[number] != 0) {
+            fprintf(stderr, "%s%u with %u", before, refused[number], number);
+            before = ", ";
+        }
+    }
+    fprintf(stderr, "\n");
 }
 
 /* From here on: the line, which a real driver does not have. */
@@ -119,6 +215,11 @@ static void handle_received(void)
 static struct car our_car = {{2, 0, 0, 0, 0, 1}, {1, 2, 3, 4, 5, 6, 7, 8}};
 static struct car neighbour = {{2, 0, 0, 0, 0, 2}, {9, 9, 9, 9, 9, 9, 9, 9}};
 static uint8_t line[FRAME_MOST];
+
+static void put_clock(uint32_t reading)
+{
+    put_event(&received, EVENT_CLOCK, LAHZAVAR_PILOT_A, reading);
+}
 
 /* A car that has its parameters starts to sound; the modem measures each sound. */
 static void sound(const struct car *car, unsigned attenuation)
@@ -151,7 +252,7 @@ static void car_hears(const uint8_t *frame, size_t length)
         choose(car, ours ? our_address : next_station);
         break;
     case CM_SLAC_MATCH_CNF:
-        put_number(&received, EVENT_LINK, 0, 0);
+        put_event(&received, EVENT_LINK, LAHZAVAR_PILOT_A, 0);
         break;
     default:
         break;
@@ -163,42 +264,42 @@ static void cars_hear(void)
     const struct event *event = next_of(&to_send);
     if (event != NULL) {
         car_hears(event->octets, event->length);
-        to_send.taken++;
+        give_back(&to_send);
     }
 }
 
-/* 40 turns of 10 ms from plug-in, with the clock close to its wrap. */
+/* A reading after a long sleep, then 40 turns of 10 ms from plug-in, with the clock close to its wrap. */
 static void run(void)
 {
     uint32_t reading = 0xFFFFFF00u;
     unsigned turn;
-    put_number(&received, EVENT_PILOT, LAHZAVAR_PILOT_B, reading);
+    put_clock(reading);
+    put_event(&received, EVENT_PILOT, LAHZAVAR_PILOT_B, reading);
     put_frame(&received, line, write_parm_req(line, &neighbour));
     put_frame(&received, line, write_parm_req(line, &our_car));
     for (turn = 0; turn < 40; turn++) {
         handle_received();
         cars_hear();
         reading += 10;
-        put_number(&received, EVENT_CLOCK, reading, 0);
+        put_clock(reading);
     }
 }
 
 int main(void)
 {
-    struct lahzavar_answer answer;
+    int linked;
     if (!lahzavar_library_fits()) {
         fprintf(stderr, "the library is not the one that lahzavar.h describes\n");
         return 1;
     }
-    answer = lahzavar_station_configure(&station, lahzavar_address(our_address), lahzavar_address(our_modem),
-                                        lahzavar_nid(network_id), network_key);
-    if (answer.refusal != LAHZAVAR_ACCEPTED) {
-        fprintf(stderr, "configuring was refused with %u\n", (unsigned)answer.refusal);
+    if (start(0xFFFE0000u).refusal != LAHZAVAR_ACCEPTED) {
         return 1;
     }
     run();
-    if (last_indication != LAHZAVAR_LINK_ESTABLISHED || lahzavar_station_state(&station) != LAHZAVAR_MATCHED ||
-        received.dropped + to_send.dropped != 0) {
+    linked = last_indication == LAHZAVAR_LINK_ESTABLISHED && lahzavar_station_state(&station) == LAHZAVAR_MATCHED;
+    report();
+    lahzavar_station_wipe(&station);
+    if (!linked || dropped_by(&received) + dropped_by(&to_send) != 0) {
         fprintf(stderr, "no link\n");
         return 1;
     }

@@ -1,4 +1,7 @@
-/* The numbers of lahzavar.h against the library: sizes, and each refusal, indication, state and pilot by what it does. */
+/*
+ * The numbers of lahzavar.h against the library: sizes, and each refusal, indication, state and pilot by what it does; and
+ * what the header adds: sentences, NULL, and wiped stations.
+ */
 #include "car_frames.h"
 #include "lahzavar.h"
 
@@ -8,6 +11,7 @@ static const uint8_t us[6] = {2, 0, 0, 0, 0, 0xAA};
 static const uint8_t modem[6] = {2, 0, 0, 0, 0, 0xBB};
 static const uint8_t nid[7] = {1, 2, 3, 4, 5, 6, 7};
 static const uint8_t nmk[16] = {0, 1, 2, 3, 4, 5, 6, 7, 8, 9, 10, 11, 12, 13, 14, 15};
+static const enum lahzavar_pilot_state no_pilot = (enum lahzavar_pilot_state)6;
 static const struct car first = {{2, 0, 0, 0, 0, 1}, {1, 2, 3, 4, 5, 6, 7, 8}};
 
 static struct lahzavar_station station;
@@ -57,6 +61,9 @@ static void plug_in(void)
 static void sizes(void)
 {
     same("version", lahzavar_version(), LAHZAVAR_VERSION);
+    same("major", lahzavar_version() >> 16, LAHZAVAR_MAJOR);
+    same("minor", lahzavar_version() >> 8 & 0xFF, LAHZAVAR_MINOR);
+    same("patch", lahzavar_version() & 0xFF, LAHZAVAR_PATCH);
     same("words", lahzavar_words(), LAHZAVAR_WORDS);
     same("sums", lahzavar_sums(), LAHZAVAR_SUMS);
     same("least output", lahzavar_least_output(), LAHZAVAR_LEAST_OUTPUT);
@@ -132,7 +139,7 @@ static void refusals_of_matching(void)
     same("sounds heard", lahzavar_station_sounds_heard(&station, lahzavar_address(first.address)).sounds, 1);
     same("sounds of no record", lahzavar_station_sounds_heard(&station, lahzavar_address(us)).refusal, LAHZAVAR_NO_RECORD);
     same("link up", lahzavar_station_link_up(&station).refusal, LAHZAVAR_WRONG_STATE);
-    same("pilot 6", lahzavar_station_pilot(&station, 6, 0).refusal, LAHZAVAR_WRONG_STATE);
+    same("pilot 6", lahzavar_station_pilot(&station, no_pilot, 0).refusal, LAHZAVAR_WRONG_STATE);
     same("tick gap", tick(60001).refusal, LAHZAVAR_TICK_GAP);
     same("records held", lahzavar_station_records_held(&station), LAHZAVAR_RECORDS);
     same("tick", tick(399).refusal, LAHZAVAR_ACCEPTED);
@@ -154,19 +161,108 @@ static void end_of_admission(void)
     same("unmatched", lahzavar_station_state(&station), LAHZAVAR_UNMATCHED);
 }
 
-static void bad_configuration(void)
+/* A station that was badly configured or wiped, or NULL: every call answers 16, and no output is written. */
+static void answers_nothing(struct lahzavar_station *other)
 {
-    struct lahzavar_station other;
-    struct lahzavar_answer answer =
-        lahzavar_station_configure(&other, lahzavar_address(us), lahzavar_address(us), lahzavar_nid(nid), nmk);
+    size_t length = write_parm_req(frame, &first), at;
+    memset(out, 0xEE, sizeof out);
+    same("frame", lahzavar_station_frame(other, frame, length, out, sizeof out).refusal, LAHZAVAR_BAD_CONFIGURATION);
+    same("no frame", lahzavar_station_frame(other, NULL, 0, NULL, 0).refusal, LAHZAVAR_BAD_CONFIGURATION);
+    same("tick", lahzavar_station_tick(other, 0, out, sizeof out).refusal, LAHZAVAR_BAD_CONFIGURATION);
+    same("tick without output", lahzavar_station_tick(other, 0, NULL, 0).refusal, LAHZAVAR_BAD_CONFIGURATION);
+    same("pilot", lahzavar_station_pilot(other, LAHZAVAR_PILOT_B, 0).refusal, LAHZAVAR_BAD_CONFIGURATION);
+    same("pilot 6", lahzavar_station_pilot(other, no_pilot, 0).refusal, LAHZAVAR_BAD_CONFIGURATION);
+    same("terminate", lahzavar_station_terminate(other).refusal, LAHZAVAR_BAD_CONFIGURATION);
+    same("link up", lahzavar_station_link_up(other).refusal, LAHZAVAR_BAD_CONFIGURATION);
+    same("query", lahzavar_station_sounds_heard(other, 1).refusal, LAHZAVAR_BAD_CONFIGURATION);
+    same("sounds", lahzavar_station_sounds_heard(other, 1).sounds, 0);
+    same("state", lahzavar_station_state(other), LAHZAVAR_UNMATCHED);
+    same("records held", lahzavar_station_records_held(other), 0);
+    for (at = 0; at < sizeof out; at++) {
+        same("an octet of the output", out[at], 0xEE);
+    }
+}
+
+/* Configures a station badly, where one before it was good. */
+static void configure_badly(uint64_t address, uint64_t other, uint64_t network, const uint8_t *key)
+{
+    struct lahzavar_answer answer;
+    plug_in();
+    answer = lahzavar_station_configure(&station, address, other, network, key);
     same("bad configuration", answer.refusal, LAHZAVAR_BAD_CONFIGURATION);
-    same("frame", lahzavar_station_frame(&other, NULL, 0, NULL, 0).refusal, LAHZAVAR_BAD_CONFIGURATION);
-    same("tick", lahzavar_station_tick(&other, 0, NULL, 0).refusal, LAHZAVAR_BAD_CONFIGURATION);
-    same("pilot", lahzavar_station_pilot(&other, 6, 0).refusal, LAHZAVAR_BAD_CONFIGURATION);
-    same("terminate", lahzavar_station_terminate(&other).refusal, LAHZAVAR_BAD_CONFIGURATION);
-    same("link up", lahzavar_station_link_up(&other).refusal, LAHZAVAR_BAD_CONFIGURATION);
-    same("query", lahzavar_station_sounds_heard(&other, 1).refusal, LAHZAVAR_BAD_CONFIGURATION);
-    same("state", lahzavar_station_state(&other), LAHZAVAR_UNMATCHED);
+    same("its indication, frames and octets", answer.indication | answer.frames | answer.octets, 0);
+    answers_nothing(&station);
+}
+
+static void bad_configurations(void)
+{
+    uint64_t ours = lahzavar_address(us), modems = lahzavar_address(modem), network = lahzavar_nid(nid);
+    configure_badly(ours, ours, network, nmk);
+    configure_badly(lahzavar_address(NULL), modems, network, nmk);
+    configure_badly(ours, lahzavar_address(NULL), network, nmk);
+    configure_badly(ours, modems, lahzavar_nid(NULL), nmk);
+    configure_badly(ours, modems, (uint64_t)1 << 54, nmk);
+    configure_badly(ours, modems, network, NULL);
+    configure();
+}
+
+static void no_station(void)
+{
+    struct lahzavar_answer answer =
+        lahzavar_station_configure(NULL, lahzavar_address(us), lahzavar_address(modem), lahzavar_nid(nid), nmk);
+    same("configuring no station", answer.refusal, LAHZAVAR_BAD_CONFIGURATION);
+    same("the same without an NMK", lahzavar_station_configure(NULL, 1, 2, 3, NULL).refusal, LAHZAVAR_BAD_CONFIGURATION);
+    lahzavar_station_wipe(NULL);
+    answers_nothing(NULL);
+}
+
+/* A wiped station keeps nothing of what it held, and no octet beside it changes. */
+static void wiped_station(void)
+{
+    static struct {
+        uint8_t before[64];
+        struct lahzavar_station station;
+        uint8_t after[64];
+    } room;
+    size_t at;
+    plug_in();
+    (void)hear(write_parm_req(frame, &first));
+    (void)hear(write_start(frame, &first));
+    (void)hear(write_profile(frame, modem, us, first.address, 255));
+    memset(&room, 0xEE, sizeof room);
+    room.station = station;
+    lahzavar_station_wipe(&room.station);
+    for (at = 0; at < LAHZAVAR_WORDS; at++) {
+        same("a wiped word", (size_t)room.station.private_words[at], 0);
+    }
+    for (at = 0; at < LAHZAVAR_SUMS; at++) {
+        same("a wiped sum", room.station.private_sums[at], 0);
+    }
+    for (at = 0; at < sizeof room.before; at++) {
+        same("an octet before a wiped station", room.before[at], 0xEE);
+        same("an octet behind a wiped station", room.after[at], 0xEE);
+    }
+    answers_nothing(&room.station);
+    lahzavar_station_wipe(&station);
+    answers_nothing(&station);
+    plug_in();
+    same("a new matching", lahzavar_station_state(&station), LAHZAVAR_MATCHING);
+}
+
+/* Each number has a sentence of its own; those of a later library share one. */
+static void sentences(void)
+{
+    const char *later = lahzavar_refusal_text(LAHZAVAR_ONLY_FOR_CARS + 1);
+    uint32_t number, other;
+    same("the sentence of the greatest number", (size_t)strcmp(lahzavar_refusal_text(UINT32_MAX), later), 0);
+    for (number = 0; number <= LAHZAVAR_ONLY_FOR_CARS; number++) {
+        const char *text = lahzavar_refusal_text(number);
+        same("an empty sentence", *text == '\0', 0);
+        same("a sentence as of a later library", strcmp(text, later) == 0, 0);
+        for (other = 0; other < number; other++) {
+            same("a sentence of two numbers", strcmp(text, lahzavar_refusal_text(other)) == 0, 0);
+        }
+    }
 }
 
 static void states_and_indications(void)
@@ -194,8 +290,8 @@ static void states_and_indications(void)
 /* B, C and D are a plug-in; A, E and F a loss. */
 static void pilots(void)
 {
-    static const uint32_t plugged[] = {LAHZAVAR_PILOT_B, LAHZAVAR_PILOT_C, LAHZAVAR_PILOT_D};
-    static const uint32_t lost[] = {LAHZAVAR_PILOT_A, LAHZAVAR_PILOT_E, LAHZAVAR_PILOT_F};
+    static const enum lahzavar_pilot_state plugged[] = {LAHZAVAR_PILOT_B, LAHZAVAR_PILOT_C, LAHZAVAR_PILOT_D};
+    static const enum lahzavar_pilot_state lost[] = {LAHZAVAR_PILOT_A, LAHZAVAR_PILOT_E, LAHZAVAR_PILOT_F};
     size_t at;
     for (at = 0; at < 3; at++) {
         configure();
@@ -213,7 +309,10 @@ int main(void)
     refusals_of_reading();
     refusals_of_matching();
     end_of_admission();
-    bad_configuration();
+    bad_configurations();
+    no_station();
+    wiped_station();
+    sentences();
     states_and_indications();
     pilots();
     return faults == 0 ? 0 : 1;
