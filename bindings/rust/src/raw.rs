@@ -50,6 +50,7 @@ extern "C" {
         -> Answered;
     pub fn lahzavar_terminate(words: &mut Words, sums: &mut Sums) -> Answered;
     pub fn lahzavar_link_up(words: &mut Words, sums: &mut Sums) -> Answered;
+    pub fn lahzavar_wipe(words: &mut Words, sums: &mut Sums);
     pub fn lahzavar_sounds_heard(words: &Words, sums: &Sums, car: u64) -> Heard;
     pub fn lahzavar_state(words: &Words) -> u32;
     pub fn lahzavar_records_held(words: &Words) -> u32;

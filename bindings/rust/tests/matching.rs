@@ -1,15 +1,15 @@
 //! The wrapper's calls against the library.
 
 #[path = "../../../examples/rust/src/cars.rs"]
-#[allow(dead_code)]
+#[allow(dead_code, reason = "the example uses more of it")]
 mod cars;
 
 use cars::{Address, Car};
-use lahzavar::*;
+use lahzavar::{Answer, Configuration, Indication, Pilot, Refusal, State, Station};
+use lahzavar::{LEAST_OUTPUT, RECORDS, REPORT_OCTETS};
 
 const STATION: Address = [2, 0, 0, 0, 0, 0xAA];
 const MODEM: Address = [2, 0, 0, 0, 0, 0xBB];
-const NOTHING: Answer = Ok(Done { frames: 0, octets: 0, indication: None });
 
 fn configuration() -> Configuration {
     Configuration { address: STATION, modem: MODEM, nid: [1, 2, 3, 4, 5, 6, 7], nmk: [0x4B; 16] }
@@ -17,6 +17,11 @@ fn configuration() -> Configuration {
 
 fn car(last: u8) -> Car {
     Car { address: [2, 0, 0, 0, 0, last], run: [last; 8] }
+}
+
+/// Accepted, with no frame and no indication.
+fn nothing(answer: Answer<'_>) -> bool {
+    answer.is_ok_and(|done| done.frames().len() == 0 && done.indication.is_none())
 }
 
 /// A station in Matching and the output that is lent to it.
@@ -28,26 +33,26 @@ struct Bench {
 impl Bench {
     fn plugged() -> Bench {
         let mut station = Station::new(&configuration()).unwrap();
-        assert_eq!(station.pilot(Pilot::B, 5), NOTHING);
+        assert!(nothing(station.pilot(Pilot::B, 5)));
         Bench { station, out: [0xEE; LEAST_OUTPUT] }
     }
 
-    fn hear(&mut self, octets: &[u8]) -> Answer {
+    fn hear(&mut self, octets: &[u8]) -> Answer<'_> {
         self.station.frame(octets, &mut self.out)
     }
 
-    fn replies(&mut self, octets: &[u8]) -> Vec<Vec<u8>> {
-        let done = self.hear(octets).unwrap();
-        done.frames_in(&self.out).map(<[u8]>::to_vec).collect()
+    /// The frames outlive what the call gave; it is the output that they borrow.
+    fn replies(&mut self, octets: &[u8]) -> Vec<&[u8]> {
+        self.hear(octets).unwrap().frames().collect()
     }
 
     fn sounded(&mut self, car: &Car, profiles: u8) {
         assert_eq!(self.replies(&car.parm_req()).len(), 1);
-        assert_eq!(self.hear(&car.start()), NOTHING);
+        assert!(nothing(self.hear(&car.start())));
         for count in 0..profiles {
-            assert_eq!(self.hear(&car.sound(count)), NOTHING);
+            assert!(nothing(self.hear(&car.sound(count))));
             let profile = cars::profile(MODEM, STATION, car.address, 10 + count);
-            self.hear(&profile).unwrap();
+            assert!(self.hear(&profile).is_ok());
         }
     }
 }
@@ -57,34 +62,50 @@ fn a_whole_matching() {
     let (mut bench, car) = (Bench::plugged(), car(1));
     bench.sounded(&car, 9);
     assert_eq!(bench.station.sounds_heard(car.address), Ok(9));
-    assert_eq!(bench.hear(&car.sound(9)), NOTHING);
+    assert!(nothing(bench.hear(&car.sound(9))));
     let report = bench.replies(&cars::profile(MODEM, STATION, car.address, 21));
     assert_eq!((report.len(), report[0].len()), (1, REPORT_OCTETS));
     assert_eq!((report[0][19 + 50], report[0][19 + 52]), (10, 14));
-    assert_eq!(bench.hear(&car.rsp(STATION)), NOTHING);
+    assert!(nothing(bench.hear(&car.rsp(STATION))));
     let confirmed = bench.replies(&car.match_req(STATION));
-    assert_eq!(cars::message_type(&confirmed[0]), cars::MATCH_CNF);
+    assert_eq!(cars::message_type(confirmed[0]), cars::MATCH_CNF);
     assert_eq!(confirmed[0][19 + 66..19 + 73], [1, 2, 3, 4, 5, 6, 7]);
     assert_eq!(confirmed[0][19 + 74..], [0x4B; 16]);
     assert_eq!((bench.station.state(), bench.station.records_held()), (State::Joining, 0));
     let linked = bench.station.link_up().unwrap();
     assert_eq!(linked.indication, Some(Indication::LinkEstablished));
     assert_eq!(bench.station.state(), State::Matched);
-    assert_eq!(bench.station.terminate(), NOTHING);
+    assert!(nothing(bench.station.terminate()));
 }
 
 #[test]
 fn reports_of_one_tick_stand_back_to_back() {
     let mut bench = Bench::plugged();
-    for last in 1..=RECORDS as u8 {
-        bench.sounded(&car(last), 1);
+    let cars: Vec<u8> = (1..).take(RECORDS).collect();
+    for last in &cars {
+        bench.sounded(&car(*last), 1);
     }
     assert_eq!(bench.station.records_held(), RECORDS);
     assert_eq!(bench.hear(&car(99).parm_req()), Err(Refusal::RecordsFull));
     let done = bench.station.tick(605, &mut bench.out).unwrap();
-    assert_eq!((done.frames, done.octets), (RECORDS, LEAST_OUTPUT));
-    let ends: Vec<u8> = done.frames_in(&bench.out).map(|report| report[5]).collect();
-    assert_eq!(ends, (1..=RECORDS as u8).collect::<Vec<_>>());
+    assert_eq!(done.octets().len(), LEAST_OUTPUT);
+    let mut frames = done.frames();
+    for left in (0..RECORDS).rev() {
+        let report = frames.next().unwrap();
+        assert_eq!((report.len(), frames.len()), (REPORT_OCTETS, left));
+    }
+    assert_eq!((frames.next(), frames.next()), (None, None));
+    assert!(done.frames().map(|report| report[5]).eq(cars));
+    assert!(done.frames().flatten().eq(done.octets()));
+}
+
+#[test]
+fn the_frames_stand_in_the_output() {
+    let mut bench = Bench::plugged();
+    let start = bench.out.as_ptr();
+    let reply = bench.replies(&car(1).parm_req())[0];
+    assert_eq!((reply.as_ptr(), reply.len()), (start, 60));
+    assert_eq!(bench.out[60..], [0xEE; LEAST_OUTPUT - 60]);
 }
 
 #[test]
@@ -124,19 +145,64 @@ fn bad_configurations() {
     let same = Configuration { modem: STATION, ..good };
     for bad in [group, nid, same] {
         assert_eq!(Station::new(&bad).err(), Some(Refusal::BadConfiguration));
+        let mut bench = Bench::plugged();
+        assert_eq!(bench.station.configure(&bad), Err(Refusal::BadConfiguration));
+        answers_16_to_everything(&mut bench);
     }
 }
 
+fn answers_16_to_everything(bench: &mut Bench) {
+    let bad = Refusal::BadConfiguration;
+    assert_eq!(bench.hear(&car(1).parm_req()), Err(bad));
+    assert_eq!(bench.hear(&[]), Err(bad));
+    assert_eq!(bench.station.tick(10, &mut bench.out), Err(bad));
+    assert_eq!(bench.station.tick(99_999, &mut []), Err(bad));
+    assert_eq!(bench.station.pilot(Pilot::A, 10), Err(bad));
+    assert_eq!(bench.station.pilot(Pilot::B, 10), Err(bad));
+    assert_eq!(bench.station.terminate(), Err(bad));
+    assert_eq!(bench.station.link_up(), Err(bad));
+    assert_eq!(bench.station.sounds_heard(car(1).address), Err(bad));
+    assert_eq!((bench.station.state(), bench.station.records_held()), (State::Unmatched, 0));
+    assert_eq!(bench.out, [0xEE; LEAST_OUTPUT]);
+}
+
 #[test]
-fn every_refusal_has_its_number() {
-    for number in 1..=18 {
-        assert_eq!(Refusal::of(number).map(Refusal::number), Some(number));
-    }
-    assert_eq!(Refusal::of(18), Some(Refusal::Other(18)));
+fn a_wiped_station() {
+    let mut bench = Bench::plugged();
+    bench.sounded(&car(1), 3);
+    bench.out.fill(0xEE);
+    bench.station.wipe();
+    answers_16_to_everything(&mut bench);
+    assert_eq!(bench.station.configure(&configuration()), Ok(()));
+    assert!(nothing(bench.station.pilot(Pilot::B, 5)));
+    assert_eq!(bench.replies(&car(1).parm_req()).len(), 1);
+}
+
+#[test]
+fn configuring_anew_forgets_the_matching() {
+    let mut bench = Bench::plugged();
+    bench.sounded(&car(1), 3);
+    assert_eq!(bench.station.configure(&configuration()), Ok(()));
+    assert_eq!((bench.station.state(), bench.station.records_held()), (State::Unmatched, 0));
+    assert_eq!(bench.hear(&car(1).parm_req()), Err(Refusal::WrongState));
 }
 
 #[test]
 fn the_key_is_not_shown() {
-    let shown = format!("{:?}", Bench::plugged().station);
+    let mut bench = Bench::plugged();
+    let shown = format!("{:?}", bench.station);
     assert_eq!(shown, "Station { state: Matching, records_held: 0, .. }");
+    let done = bench.hear(&car(1).parm_req()).unwrap();
+    assert_eq!(format!("{done:?}"), "Done { frames: 1, octets: 60, indication: None }");
+    assert!(!format!("{:?}", configuration()).contains("75"));
+}
+
+#[test]
+fn a_station_may_go_to_another_thread() {
+    let mut bench = Bench::plugged();
+    let held = std::thread::spawn(move || {
+        bench.sounded(&car(1), 1);
+        bench.station.records_held()
+    });
+    assert_eq!(held.join().unwrap(), 1);
 }

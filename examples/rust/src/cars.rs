@@ -11,8 +11,10 @@ pub const MATCH_CNF: u16 = 0x607D;
 const BROADCAST: Address = [0xFF; 6];
 const HEAD: usize = 19;
 const LEAST: usize = 60;
+#[allow(clippy::cast_possible_truncation, reason = "58 fits an octet")]
+const GROUP_COUNT: u8 = GROUPS as u8;
 
-/// One car: its address and the RunID of its matching run.
+/// One car: its address and the run number of its matching run.
 #[derive(Clone, Copy)]
 pub struct Car {
     pub address: Address,
@@ -40,7 +42,7 @@ fn frame(to: Address, from: Address, kind: u16, payload: &[&[u8]]) -> Vec<u8> {
 
 /// What the modem measured of one sound of a car, the same value in every group.
 pub fn profile(modem: Address, station: Address, car: Address, value: u8) -> Vec<u8> {
-    frame(station, modem, 0x6086, &[&car, &[GROUPS as u8, 0], &[value; GROUPS]])
+    frame(station, modem, 0x6086, &[&car, &[GROUP_COUNT, 0], &[value; GROUPS]])
 }
 
 impl Car {

@@ -6,7 +6,8 @@
 mod cars;
 
 use cars::{Address, Car};
-use lahzavar::{Configuration, Indication, Pilot, Station, LEAST_OUTPUT};
+use lahzavar::{Answer, Configuration, Indication, Pilot, Refusal, State, Station, LEAST_OUTPUT};
+use std::collections::BTreeMap;
 use std::process::ExitCode;
 use std::sync::mpsc::{sync_channel, Receiver, SyncSender};
 use std::thread;
@@ -26,31 +27,73 @@ enum Event {
     LinkUp,
 }
 
-/// The driver loop: ends with the first indication, or with the queue.
-fn drive(
-    station: &mut Station,
-    events: Receiver<Event>,
+/// What comes of the answers.
+struct Outcome {
     send: SyncSender<Vec<u8>>,
-) -> Option<Indication> {
-    let mut out = [0; LEAST_OUTPUT];
-    for event in events {
-        let answer = match event {
-            Event::Frame(octets) => station.frame(&octets, &mut out),
-            Event::Clock(reading) => station.tick(reading, &mut out),
-            Event::Pilot(pilot, reading) => station.pilot(pilot, reading),
-            Event::LinkUp => station.link_up(),
-        };
-        // A refused event changed nothing, so that the loop goes on.
-        let Ok(done) = answer else { continue };
-        for reply in done.frames_in(&out) {
-            // A full send queue drops the frame, and cars repeat themselves.
-            let _ = send.try_send(reply.to_vec());
-        }
-        if done.indication.is_some() {
-            return done.indication;
+    indication: Option<Indication>,
+    /// How often each refusal came, by its number.
+    refusals: BTreeMap<u32, u32>,
+}
+
+impl Outcome {
+    /// Puts each frame into the send queue, keeps the indication, and counts a refusal.
+    fn obey(&mut self, answer: Answer) {
+        match answer {
+            // A refused event changed nothing, so that the loop goes on.
+            Err(refusal) => self.count(refusal),
+            Ok(done) => {
+                for reply in done.frames() {
+                    // A full send queue drops the frame, and cars repeat themselves.
+                    let _ = self.send.try_send(reply.to_vec());
+                }
+                self.indication = done.indication.or(self.indication);
+            }
         }
     }
-    None
+
+    /// Says a refusal's sentence the first time.
+    fn count(&mut self, refusal: Refusal) {
+        let count = self.refusals.entry(refusal.number()).or_default();
+        if *count == 0 {
+            eprintln!("{refusal}");
+        }
+        *count += 1;
+    }
+
+    fn report(&self) {
+        let counts = self.refusals.iter().map(|(number, count)| format!("{count} with {number}"));
+        eprintln!("refused: {}", counts.collect::<Vec<_>>().join(", "));
+    }
+}
+
+/// The driver loop: ends with the first indication, or with the queue.
+fn drive(station: &mut Station, events: Receiver<Event>, outcome: &mut Outcome) {
+    let (mut out, mut pilot_now) = ([0; LEAST_OUTPUT], Pilot::A);
+    for event in events {
+        match event {
+            Event::Frame(octets) => outcome.obey(station.frame(&octets, &mut out)),
+            Event::Clock(reading) => {
+                let answer = station.tick(reading, &mut out);
+                outcome.obey(answer);
+                // After a gap of more than 60 seconds in a matching it is not known what happened
+                // meanwhile, so that it ends and begins anew; else the gap does no harm, since the
+                // next plug-in or loss takes a reading.
+                let timed = matches!(station.state(), State::Matching | State::Joining);
+                if answer == Err(Refusal::TickGap) && timed {
+                    outcome.obey(station.pilot(Pilot::A, reading));
+                    outcome.obey(station.pilot(pilot_now, reading));
+                }
+            }
+            Event::Pilot(pilot, reading) => {
+                pilot_now = pilot;
+                outcome.obey(station.pilot(pilot, reading));
+            }
+            Event::LinkUp => outcome.obey(station.link_up()),
+        }
+        if outcome.indication.is_some() {
+            return;
+        }
+    }
 }
 
 /// What a car does with one frame from the station.
@@ -74,7 +117,7 @@ fn car_hears(frame: &[u8]) -> Vec<Event> {
 
 /// The line: plug-in, both cars' requests, then an answer to each frame and 10 ms more; ends when
 /// the station is silent.
-fn line(events: SyncSender<Event>, sent: Receiver<Vec<u8>>) {
+fn line(events: &SyncSender<Event>, replies: &Receiver<Vec<u8>>) {
     let mut reading = 0xFFFF_FF00;
     let first = [
         Event::Pilot(Pilot::B, reading),
@@ -84,7 +127,7 @@ fn line(events: SyncSender<Event>, sent: Receiver<Vec<u8>>) {
     let put = |event| events.send(event).is_ok();
     let mut heard = first.into_iter().all(put);
     while heard {
-        let Ok(frame) = sent.recv_timeout(Duration::from_secs(1)) else { return };
+        let Ok(frame) = replies.recv_timeout(Duration::from_secs(1)) else { return };
         reading = u32::wrapping_add(reading, 10);
         heard = car_hears(&frame).into_iter().all(put) && put(Event::Clock(reading));
     }
@@ -100,14 +143,17 @@ fn main() -> ExitCode {
     let mut station = match Station::new(&configuration) {
         Ok(station) => station,
         Err(refusal) => {
-            eprintln!("configuring was {refusal}");
+            eprintln!("the configuration was {refusal}");
             return ExitCode::FAILURE;
         }
     };
     let (put, events) = sync_channel(32);
-    let (send, sent) = sync_channel(32);
-    thread::spawn(move || line(put, sent));
-    if drive(&mut station, events, send) == Some(Indication::LinkEstablished) {
+    let (send, replies) = sync_channel(32);
+    thread::spawn(move || line(&put, &replies));
+    let mut outcome = Outcome { send, indication: None, refusals: BTreeMap::new() };
+    drive(&mut station, events, &mut outcome);
+    outcome.report();
+    if outcome.indication == Some(Indication::LinkEstablished) {
         println!("link established");
         return ExitCode::SUCCESS;
     }

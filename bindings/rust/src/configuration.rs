@@ -1,0 +1,71 @@
+//! What a station is given before its first event.
+
+use core::fmt;
+use core::sync::atomic::{compiler_fence, Ordering};
+
+/// What a station is given before its first event; octets as they stand in frames.
+///
+/// The NMK is wiped on drop, and `Debug` does not show it.
+///
+/// ```
+/// use lahzavar::Configuration;
+/// let configuration = Configuration {
+///     address: [2, 0, 0, 0, 0, 0xAA],
+///     modem: [2, 0, 0, 0, 0, 0xBB],
+///     nid: [1, 2, 3, 4, 5, 6, 7],
+///     nmk: [0x4B; 16],
+/// };
+/// assert!(format!("{configuration:?}").ends_with("nid: [1, 2, 3, 4, 5, 6, 7], .. }"));
+/// ```
+#[derive(Clone)]
+pub struct Configuration {
+    /// The station's own address.
+    pub address: [u8; 6],
+    /// Its modem's address.
+    pub modem: [u8; 6],
+    /// The network ID, low octet first, the last octet at most 3F.
+    pub nid: [u8; 7],
+    /// The network membership key; ISO 15118-3 wants a fresh one for each plug-in.
+    pub nmk: [u8; 16],
+}
+
+/// Wipes the NMK by writes that the compiler leaves in.
+impl Drop for Configuration {
+    fn drop(&mut self) {
+        for octet in &mut self.nmk {
+            // SAFETY: the reference is valid for a write.
+            unsafe { core::ptr::write_volatile(octet, 0) };
+        }
+        compiler_fence(Ordering::SeqCst);
+    }
+}
+
+/// Shows everything but the NMK.
+impl fmt::Debug for Configuration {
+    fn fmt(&self, f: &mut fmt::Formatter) -> fmt::Result {
+        let mut shown = f.debug_struct("Configuration");
+        shown.field("address", &self.address).field("modem", &self.modem).field("nid", &self.nid);
+        shown.finish_non_exhaustive()
+    }
+}
+
+#[cfg(test)]
+mod tests {
+    use super::Configuration;
+    use core::mem::MaybeUninit;
+    use core::ptr::addr_of;
+
+    #[test]
+    fn a_dropped_key_is_wiped() {
+        let configuration =
+            Configuration { address: [2; 6], modem: [4; 6], nid: [6; 7], nmk: [0x4B; 16] };
+        let mut place = MaybeUninit::new(configuration);
+        let dropped = place.as_mut_ptr();
+        // SAFETY: the place holds a configuration that is dropped once; its octets stay octets.
+        let nmk = unsafe {
+            dropped.drop_in_place();
+            addr_of!((*dropped).nmk).read_volatile()
+        };
+        assert_eq!(nmk, [0; 16]);
+    }
+}

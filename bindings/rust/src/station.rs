@@ -1,0 +1,253 @@
+//! The station.
+
+use crate::raw::{self, Answered, Sums, Words};
+use crate::{library_fits, Answer, Configuration, Done, Indication, Pilot, Refusal, State};
+use crate::{SUMS, WORDS};
+use core::fmt;
+
+/// A station: plain memory of its own, in which the NMK stands too. It is wiped on drop.
+#[derive(Clone)]
+pub struct Station {
+    words: Words,
+    sums: Sums,
+}
+
+impl Station {
+    /// A station that is Unmatched, with the pilot at A and the clock reading 0.
+    ///
+    /// # Errors
+    ///
+    /// [`Refusal::BadConfiguration`] unless both addresses are unicast and differ and the NID is
+    /// below 2^54.
+    ///
+    /// # Panics
+    ///
+    /// Where the linked library is not the one that this wrapper describes, since its stations may
+    /// be larger.
+    ///
+    /// ```
+    /// use lahzavar::{Configuration, Refusal, Station};
+    /// let address = [2, 0, 0, 0, 0, 0xAA];
+    /// let bad = Configuration { address, modem: address, nid: [0; 7], nmk: [0; 16] };
+    /// assert_eq!(Station::new(&bad).err(), Some(Refusal::BadConfiguration));
+    /// ```
+    pub fn new(configuration: &Configuration) -> Result<Station, Refusal> {
+        assert!(library_fits(), "another version of the library is linked");
+        let mut station = Station { words: [0; WORDS], sums: [0; SUMS] };
+        station.configure(configuration)?;
+        Ok(station)
+    }
+
+    /// Configures the station anew in its place, for the next plug-in: afterwards it is as
+    /// [`Station::new`] gives it.
+    ///
+    /// # Errors
+    ///
+    /// Those of [`Station::new`]; the station then answers [`Refusal::BadConfiguration`] to
+    /// everything.
+    pub fn configure(&mut self, configuration: &Configuration) -> Result<(), Refusal> {
+        let Configuration { address, modem, nid, nmk } = configuration;
+        let (address, modem) = (number(address), number(modem));
+        let nid = nid.iter().rev().fold(0, |number, octet| number << 8 | u64::from(*octet));
+        let (first, last) = (number(&nmk[..8]), number(&nmk[8..]));
+        let Station { words, sums } = self;
+        // SAFETY: both arrays are ours and of the library's lengths.
+        let answered =
+            unsafe { raw::lahzavar_configure(words, sums, address, modem, nid, first, last) };
+        accepted(answered.refusal)
+    }
+
+    /// Wipes the station, its NMK too; it answers [`Refusal::BadConfiguration`] to everything until
+    /// it is configured again.
+    ///
+    /// ```
+    /// use lahzavar::{Configuration, Refusal, Station};
+    /// # let configuration = Configuration {
+    /// #     address: [2, 0, 0, 0, 0, 0xAA],
+    /// #     modem: [2, 0, 0, 0, 0, 0xBB],
+    /// #     nid: [0; 7],
+    /// #     nmk: [0; 16],
+    /// # };
+    /// let mut station = Station::new(&configuration)?;
+    /// station.wipe();
+    /// assert_eq!(station.terminate(), Err(Refusal::BadConfiguration));
+    /// # Ok::<(), Refusal>(())
+    /// ```
+    pub fn wipe(&mut self) {
+        // SAFETY: both arrays are ours and of the library's lengths.
+        unsafe { raw::lahzavar_wipe(&mut self.words, &mut self.sums) }
+    }
+
+    /// A frame from the modem, from its destination address on and without its check sequence.
+    ///
+    /// # Errors
+    ///
+    /// Any refusal but [`Refusal::TickGap`]; station and output are as they were.
+    pub fn frame<'a>(&mut self, octets: &[u8], out: &'a mut [u8]) -> Answer<'a> {
+        let Station { words, sums } = self;
+        // SAFETY: both arrays are ours and of the library's lengths; the slices are lent whole, and
+        // a `&mut` overlaps nothing else.
+        let answered = unsafe {
+            raw::lahzavar_frame(
+                words,
+                sums,
+                octets.as_ptr(),
+                octets.len(),
+                out.as_mut_ptr(),
+                out.len(),
+            )
+        };
+        answer(&answered, out)
+    }
+
+    /// A reading of a free-running millisecond clock that wraps at 2^32; every 10 ms is often
+    /// enough.
+    ///
+    /// # Errors
+    ///
+    /// [`Refusal::BadConfiguration`], [`Refusal::OutputTooShort`] or [`Refusal::TickGap`]; station
+    /// and output are as they were.
+    ///
+    /// ```
+    /// use lahzavar::{Configuration, Refusal, Station, LEAST_OUTPUT};
+    /// # let configuration = Configuration {
+    /// #     address: [2, 0, 0, 0, 0, 0xAA],
+    /// #     modem: [2, 0, 0, 0, 0, 0xBB],
+    /// #     nid: [0; 7],
+    /// #     nmk: [0; 16],
+    /// # };
+    /// let mut station = Station::new(&configuration)?;
+    /// let mut out = [0; LEAST_OUTPUT];
+    /// assert!(station.tick(60_000, &mut out).is_ok());
+    /// assert_eq!(station.tick(120_001, &mut out), Err(Refusal::TickGap));
+    /// assert_eq!(station.tick(60_010, &mut []), Err(Refusal::OutputTooShort));
+    /// # Ok::<(), Refusal>(())
+    /// ```
+    pub fn tick<'a>(&mut self, reading: u32, out: &'a mut [u8]) -> Answer<'a> {
+        let Station { words, sums } = self;
+        // SAFETY: as in `frame`.
+        let answered =
+            unsafe { raw::lahzavar_tick(words, sums, reading, out.as_mut_ptr(), out.len()) };
+        answer(&answered, out)
+    }
+
+    /// The control pilot's state, at each change, with the clock's reading. There are no frames.
+    ///
+    /// # Errors
+    ///
+    /// [`Refusal::BadConfiguration`] after a wipe.
+    pub fn pilot(&mut self, pilot: Pilot, reading: u32) -> Answer<'static> {
+        let Station { words, sums } = self;
+        // SAFETY: both arrays are ours and of the library's lengths.
+        let answered = unsafe { raw::lahzavar_pilot(words, sums, pilot.into(), reading) };
+        answer(&answered, &[])
+    }
+
+    /// Ends the matching or the link; a new matching begins with the next plug-in. There are no
+    /// frames.
+    ///
+    /// # Errors
+    ///
+    /// [`Refusal::BadConfiguration`] after a wipe.
+    pub fn terminate(&mut self) -> Answer<'static> {
+        // SAFETY: both arrays are ours and of the library's lengths.
+        let answered = unsafe { raw::lahzavar_terminate(&mut self.words, &mut self.sums) };
+        answer(&answered, &[])
+    }
+
+    /// The modem has a link in the station's network. There are no frames.
+    ///
+    /// # Errors
+    ///
+    /// [`Refusal::WrongState`] where no link is awaited, [`Refusal::BadConfiguration`] after a
+    /// wipe.
+    pub fn link_up(&mut self) -> Answer<'static> {
+        // SAFETY: both arrays are ours and of the library's lengths.
+        let answered = unsafe { raw::lahzavar_link_up(&mut self.words, &mut self.sums) };
+        answer(&answered, &[])
+    }
+
+    /// How many sounds of a car's run were heard.
+    ///
+    /// # Errors
+    ///
+    /// [`Refusal::NoRecord`] where the car holds no record, [`Refusal::BadConfiguration`] after a
+    /// wipe.
+    pub fn sounds_heard(&self, car: [u8; 6]) -> Result<u32, Refusal> {
+        // SAFETY: both arrays are ours and of the library's lengths.
+        let heard = unsafe { raw::lahzavar_sounds_heard(&self.words, &self.sums, number(&car)) };
+        accepted(heard.refusal).map(|()| heard.sounds)
+    }
+
+    /// The state; one that this wrapper does not know counts as Unmatched.
+    #[must_use]
+    pub fn state(&self) -> State {
+        // SAFETY: the array is ours and of the library's length.
+        let number = unsafe { raw::lahzavar_state(&self.words) };
+        State::try_from(number).unwrap_or(State::Unmatched)
+    }
+
+    /// How many records cars hold.
+    #[must_use]
+    pub fn records_held(&self) -> usize {
+        // SAFETY: the array is ours and of the library's length.
+        unsafe { raw::lahzavar_records_held(&self.words) as usize }
+    }
+}
+
+impl Drop for Station {
+    fn drop(&mut self) {
+        self.wipe();
+    }
+}
+
+/// Shows the state and not the key.
+impl fmt::Debug for Station {
+    fn fmt(&self, f: &mut fmt::Formatter) -> fmt::Result {
+        let mut shown = f.debug_struct("Station");
+        shown.field("state", &self.state()).field("records_held", &self.records_held());
+        shown.finish_non_exhaustive()
+    }
+}
+
+/// The number that octets stand for, the first one most significant.
+fn number(octets: &[u8]) -> u64 {
+    octets.iter().fold(0, |number, octet| number << 8 | u64::from(*octet))
+}
+
+/// The refusal of a number; 0 is none.
+fn accepted(refusal: u32) -> Result<(), Refusal> {
+    Refusal::try_from(refusal).map_or(Ok(()), Err)
+}
+
+/// An answer of the library, whose frames stand from the output's first octet.
+fn answer<'a>(answered: &Answered, out: &'a [u8]) -> Answer<'a> {
+    accepted(answered.refusal)?;
+    let octets = out.get(..answered.octets as usize).unwrap_or_default();
+    let indication = Indication::try_from(answered.indication).ok();
+    Ok(Done::new(octets, answered.frames as usize, indication))
+}
+
+#[cfg(test)]
+mod tests {
+    use super::{Configuration, Pilot, Station, SUMS, WORDS};
+    use core::mem::MaybeUninit;
+    use core::ptr::addr_of;
+
+    #[test]
+    fn a_dropped_station_is_wiped() {
+        let configuration =
+            Configuration { address: [2; 6], modem: [4; 6], nid: [6; 7], nmk: [0x4B; 16] };
+        let mut station = Station::new(&configuration).unwrap();
+        assert!(station.pilot(Pilot::B, 5).is_ok());
+        assert!(station.words.contains(&0x4B4B_4B4B_4B4B_4B4B));
+        let mut place = MaybeUninit::new(station);
+        let dropped = place.as_mut_ptr();
+        // SAFETY: the place holds a station that is dropped once; its numbers stay numbers.
+        let (words, sums) = unsafe {
+            dropped.drop_in_place();
+            (addr_of!((*dropped).words).read_volatile(), addr_of!((*dropped).sums).read_volatile())
+        };
+        assert_eq!((words, sums), ([0; WORDS], [0; SUMS]));
+    }
+}
