@@ -13,6 +13,7 @@
 #include "line.h"
 
 #include <getopt.h>
+#include <signal.h>
 #include <stdio.h>
 #include <stdlib.h>
 
@@ -40,6 +41,7 @@ static void usage(void)
                     "  --attenuation N     the value in every group of a profile (20)\n"
                     "  --link-after MS     link up so long after CM_SLAC_MATCH.CNF (1000)\n"
                     "  --key-result N      the result octet of CM_SET_KEY.CNF (0)\n"
+                    "  --car pev           what the program pev of open-plc-utils needs: --key-result 1\n"
                     "  --once              end with the first indication: 0 for link established, 1 for no link\n"
                     "Without --once the plug is pulled 5 s after an indication and put in again.\n");
     exit(2);
@@ -122,7 +124,7 @@ static void give(const uint8_t *frame, size_t length)
     if (answer.refusal == LAHZAVAR_ACCEPTED) {
         printf(": accepted\n");
     } else {
-        printf(": refused with %u\n", (unsigned)answer.refusal);
+        printf(": refused with %u: %s\n", (unsigned)answer.refusal, lahzavar_refusal_text(answer.refusal));
     }
     obey(answer);
 }
@@ -190,7 +192,12 @@ static void plug_in(void)
 static void tick(void)
 {
     uint32_t reading = line_clock();
-    obey(lahzavar_station_tick(&station, reading, output, sizeof output));
+    struct lahzavar_answer answer = lahzavar_station_tick(&station, reading, output, sizeof output);
+    obey(answer);
+    if (answer.refusal != LAHZAVAR_ACCEPTED) { /* the program was stopped for too long */
+        log_words(lahzavar_refusal_text(answer.refusal));
+        plug_in();
+    }
     if (lahzavar_station_state(&station) == LAHZAVAR_JOINING && reading - confirmed_at >= link_after) {
         link_up();
     }
@@ -215,6 +222,15 @@ static void read_octets(const char *text, uint8_t *octets, size_t count)
     if (*text != '\0') {
         usage();
     }
+}
+
+/* Sets what the car of another implementation needs. */
+static void read_car(const char *car)
+{
+    if (strcmp(car, "pev") != 0) {
+        usage();
+    }
+    key_result = 1; /* other results are failures to it */
 }
 
 static void read_option(int option)
@@ -242,6 +258,9 @@ static void read_option(int option)
     case 'r':
         key_result = strtoul(optarg, NULL, 10) & 0xFF;
         break;
+    case 'c':
+        read_car(optarg);
+        break;
     case 'o':
         once = 1;
         break;
@@ -254,8 +273,8 @@ static const struct option long_options[] = {
     {"station", required_argument, NULL, 's'},     {"modem", required_argument, NULL, 'm'},
     {"nid", required_argument, NULL, 'i'},         {"nmk", required_argument, NULL, 'k'},
     {"attenuation", required_argument, NULL, 'a'}, {"link-after", required_argument, NULL, 'l'},
-    {"key-result", required_argument, NULL, 'r'},  {"once", no_argument, NULL, 'o'},
-    {NULL, 0, NULL, 0}};
+    {"key-result", required_argument, NULL, 'r'},  {"car", required_argument, NULL, 'c'},
+    {"once", no_argument, NULL, 'o'},              {NULL, 0, NULL, 0}};
 
 int main(int count, char **arguments)
 {
@@ -275,6 +294,7 @@ int main(int count, char **arguments)
     if (!station_given) {
         memcpy(us, own, 6);
     }
+    signal(SIGINT, SIG_DFL); /* a shell has background programs ignore it */
     started = last = line_clock();
     plug_in();
     for (;;) {
