@@ -2,7 +2,7 @@
 use Prim.Native.Nat.{ℕ}
 use mathlib.Core.Path.{_≡_}
 use mathlib.Core.List.{List}
-use Rattle.messages.specs.Octets.{splice}
+use Rattle.octets.specs.Octets.{splice}
 use Rattle.ends.specs.declared.Answer.{Answer}
 use Rattle.rules.specs.declared.Station.{Station}
 use Rattle.rules.specs.Calls.{Call}

@@ -5,7 +5,7 @@ use mathlib.Core.Bool.{Bool, true, false, not}
 use mathlib.Core.List.{List, [], _∷_, _++_, append-assoc, map}
 use native.Mathlib.Omega.{arith}
 use native.Mathlib.Numerals.{add-one}
-use lib.ListN.{length, drop, getD, length-append, replicate}
+use lib.ListN.{length, drop, getD, length-append, length-map, replicate}
 use lib.Seq.{drop-cons}
 use Rattle.ends.specs.Lists.{only, All, Permuted, joins}
 use Rattle.ends.proofs.Logic.{split, no-cons}
@@ -155,3 +155,7 @@ module _ {A B : Type 0} (f : A → List B) where
   joins-only b e (x ∷ xs) = split (b x)
       (λ g. rw g (ap (λ q. f x ++ q) (joins-only b e xs)))
       (λ g. rw (g, e x g) (joins-only b e xs))
+
+-- the length of an array of structs that is a field is that of the array as it is laid out
+pub length-mapped : {A B : Type 0} (f : A → B) (l : List A) (n : ℕ) → length (map f l) ≡ n → length l ≡ n
+length-mapped f l n e = sym (length-map l f) ∙ e

@@ -1,10 +1,11 @@
 -- Small laws of Bools and of checks.
 use Prim.Native.Nat.{ℕ}
 use mathlib.Core.Path.{_≡_, refl}
-use mathlib.Core.Bool.{Bool, true, false, _||_}
+use mathlib.Core.Bool.{Bool, true, false, cond, _||_}
 use mathlib.Core.List.{List, [], _∷_}
 use native.Mathlib.Omega.{arith}
 use Rattle.messages.specs.Reading.{Checked, no, yes, check}
+use Rattle.ends.specs.Outcomes.{andThen}
 
 pub split : {P : Type 0} (b : Bool) → (b ≡ true → P) → (b ≡ false → P) → P
 split true t f = t refl
@@ -33,6 +34,21 @@ module _ {A : Type 0} where
   pub on-check : (P : A → Type 0) (b : Bool) (n : ℕ) (w : Checked A) → (b ≡ true → OnYes P w) → OnYes P (check b n w)
   on-check P true n w h = h refl
   on-check P false n w h = tt
+
+-- what holds of either choice
+pub on-cond : {A : Type 0} (P : A → Type 0) (b : Bool) (x y : A) → (b ≡ true → P x) → (b ≡ false → P y) → P (cond b x y)
+on-cond P true x y p q = p refl
+on-cond P false x y p q = q refl
+
+-- and of what follows an answer
+pub on-then : {A B : Type 0} (P : B → Type 0) (w : Checked A) (f : A → Checked B) → ((x : A) → w ≡ yes x → OnYes P (f x)) → OnYes P (andThen w f)
+on-then P (no n) f h = tt
+on-then P (yes x) f h = h x refl
+
+-- a check before an answer is one before what follows it
+pub then-check : {A B : Type 0} (b : Bool) (n : ℕ) (w : Checked A) (f : A → Checked B) → check b n (andThen w f) ≡ andThen (check b n w) f
+then-check true n w f = refl
+then-check false n w f = refl
 
 module _ {A B : Type 0} (P : Checked A → Checked B → Type 0) where
   -- the same check on both sides

@@ -1,13 +1,13 @@
 -- Sending: what writing gives is what is told, and what can be written is sent.
 use Prim.Native.Nat.{ℕ}
-use mathlib.Core.Path.{_≡_, refl, sym, ap, _∙_}
+use mathlib.Core.Path.{_≡_, refl, sym, ap, _∙_, subst}
 use mathlib.Core.List.{List, [], _∷_, append-nil}
 use lib.ListN.{length}
 use Rattle.messages.specs.declared.Refusal.{Refusal}
 use Rattle.messages.specs.declared.Written.{Written}
 use Rattle.messages.specs.declared.Written.the-variants as written
 use Rattle.messages.specs.Answers.{writtenOf}
-use Rattle.messages.specs.Octets.{splice}
+use Rattle.octets.specs.Octets.{splice}
 use Rattle.messages.specs.Reading.{Checked, no, yes}
 use Rattle.messages.specs.Table.{Message}
 use Rattle.messages.specs.Writing.{frame, writeRules, lengthOf, octetsOf}
@@ -57,6 +57,10 @@ module _ (m : Message) (x : Indication) (entry exit : List ℕ) (a : Written) (e
   -- refused
   pub sends-refusal : (k : Refusal) → a ≡ written.Refused k → Sends m x entry exit (answer.Refused k)
   sends-refusal k t = sends (answer.Refused k) (ap (λ (w : Written). told x (writtenOf w)) (sym t))
+
+-- a message in other words
+pub writable-as : (m k : Message) (n : ℕ) → m ≡ k → Writable k n → Writable m n
+writable-as m k n e w = subst (λ (x : Message). Writable x n) (sym e) w
 
 -- what can be written is written, and sent
 module _ (m : Message) (out : List ℕ) (w : Writable m (length out)) where

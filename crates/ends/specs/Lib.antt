@@ -4,3 +4,5 @@ pub mod Outcomes
 pub mod Clock
 pub mod Answers
 pub mod Sending
+pub mod Words
+pub mod FirstFrames

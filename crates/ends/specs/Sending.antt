@@ -4,7 +4,7 @@ use mathlib.Core.Path.{_≡_}
 use mathlib.Core.Bool.{true}
 use mathlib.Core.List.{List, [], _∷_}
 use lib.ListN.{length}
-use Rattle.messages.specs.Octets.{splice}
+use Rattle.octets.specs.Octets.{splice}
 use Rattle.messages.specs.Reading.{yes}
 use Rattle.messages.specs.Table.{Message, writtenSize}
 use Rattle.messages.specs.Writing.{isAddressed, isLimited, writeRules}

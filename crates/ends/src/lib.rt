@@ -1,4 +1,7 @@
-// What both ends of the wire share: what a call gives, the clock, and a message sent.
+// What both ends of the wire share: what a call gives, the clock, a message sent, and fields and runs of words.
+pub mod fields;
+pub mod runs;
+
 use messages::GroupValues;
 use messages::Message;
 use messages::Refusal;

@@ -11,7 +11,7 @@ use lib.ListN.{length, take, drop, length-drop}
 use lib.Seq.{drop-drop}
 use types.Run.{OneOf, miss}
 use denote.Enum.Declared.{tagOf}
-use Rattle.messages.specs.Octets.{value, lowValue, part}
+use Rattle.octets.specs.Octets.{value, lowValue, part}
 use Rattle.messages.specs.Layout.{size, holds, read}
 use Rattle.messages.specs.Table as table
 use Rattle.messages.specs.Table.{groupCount, typeOf, payloadSize, head, filledSize, writtenSize, payload, addressed}
@@ -25,7 +25,7 @@ use Rattle.messages.specs.declared.ReadAnswer.the-variants.{Read, Refuse
 use Rattle.messages.specs.declared.Refusal.{Refusal}
 use Rattle.messages.specs.declared.kinds.Kind.{Kind}
 use Rattle.messages.proofs.Message.{the-type}
-use Rattle.messages.proofs.OctetLaws.{lent-part}
+use Rattle.octets.proofs.OctetLaws.{lent-part}
 use Rattle.messages.proofs.CheckLaws.{passed}
 
 -- ---- the payload, as the code lends it: the part behind the head

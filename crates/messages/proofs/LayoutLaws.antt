@@ -9,9 +9,9 @@ use borrow.Author.Tests.{eq-eqb, eqb-true, ltb-true, lt-ltb}
 use lib.Dec.{eqb, ltb}
 use lib.ListN.{length, take, drop, length-append, length-take, length-drop}
 use lib.Seq.{take-at, drop-at, take-add, drop-drop}
-use Rattle.messages.specs.Octets.{value, bytes, lowValue, lowBytes, part, Octets}
+use Rattle.octets.specs.Octets.{value, bytes, lowValue, lowBytes, part, Octets}
 use Rattle.messages.specs.Layout.{Field, is, number, low, octets, reserved, Values, width, size, holds, read, encode, fits}
-use Rattle.messages.proofs.OctetLaws.{length-bytes, value-lt, value-bytes, bytes-value, length-low, low-lt, low-value-bytes, low-bytes-value}
+use Rattle.octets.proofs.OctetLaws.{length-bytes, value-lt, value-bytes, bytes-value, length-low, low-lt, low-value-bytes, low-bytes-value}
 
 pub and-left : (a b : Bool) → (a && b) ≡ true → a ≡ true
 and-left true b e = refl

@@ -1,5 +1,3 @@
-pub mod OctetLaws
-pub mod LoopLaws
 pub mod LayoutLaws
 pub mod TableLaws
 pub mod CheckLaws

@@ -6,7 +6,7 @@ use mathlib.Core.List.{List, [], _∷_}
 use borrow.Author.Tests.{eqb-true, lt-ltb, le-leb, lt-leb}
 use lib.Dec.{eqb, leb, ltb}
 use lib.ListN.{length}
-use Rattle.messages.specs.Octets.{value, lowValue, Octets}
+use Rattle.octets.specs.Octets.{value, lowValue, Octets}
 use Rattle.messages.specs.Layout.{Field, is, number, low, octets, reserved, Values, size, holds, read}
 use Rattle.messages.specs.Table as table
 use Rattle.messages.specs.Table.{Kind, slacParmReq, slacParmCnf, startAttenCharInd, attenCharInd, attenCharRsp, mnbcSoundInd, slacMatchReq, slacMatchCnf, attenProfileInd, head, broadcast, isUnicast, payload, addressed}
@@ -16,7 +16,7 @@ use Rattle.messages.specs.Private.{Reads}
 use Rattle.messages.specs.declared.Message.{Message}
 use Rattle.messages.specs.declared.Message.the-variants.{SlacParmReq, SlacParmCnf, StartAttenCharInd, AttenCharInd, AttenCharRsp, MnbcSoundInd, SlacMatchReq, SlacMatchCnf, AttenProfileInd}
 use Rattle.messages.specs.declared.ReadAnswer.{ReadAnswer}
-use Rattle.messages.proofs.OctetLaws.{low-lt}
+use Rattle.octets.proofs.OctetLaws.{low-lt}
 use Rattle.messages.proofs.LayoutLaws.{and-right}
 use Rattle.messages.proofs.CheckLaws.{pass, fail}
 

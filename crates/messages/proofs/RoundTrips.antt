@@ -9,13 +9,13 @@ use borrow.Author.Tests.{le-leb}
 use lib.Dec.{leb}
 use lib.ListN.{length, take, drop, length-drop}
 use lib.Seq.{drop-at, take-add}
-use Rattle.messages.specs.Octets.{value, bytes, Octets}
+use Rattle.octets.specs.Octets.{value, bytes, Octets}
 use Rattle.messages.specs.Layout.{Values, size, holds, read, encode}
 use Rattle.messages.specs.Table.{Kind, typeOf, payloadSize, head, filledSize, writtenSize, payload, Message, addressed}
 use Rattle.messages.specs.Reading.{Checked, yes, check, ofType, kinds, sized, kindRules, payloadRules, frameRules, readRules}
 use Rattle.messages.specs.Writing.{headOctets, payloadOctets, padding, frame, isAddressed, isLimited, writeRules}
 use Rattle.messages.specs.Claims.{ReadsWritten, WritesRead}
-use Rattle.messages.proofs.OctetLaws.{octets-drop, value-bytes}
+use Rattle.octets.proofs.OctetLaws.{octets-drop, value-bytes}
 use Rattle.messages.proofs.LayoutLaws.{Fits, to-fits, to-full, holds-encode, read-encode, encode-read, read-fits}
 use Rattle.messages.proofs.TableLaws.{size-payload, type-found, addressed-lt}
 use Rattle.messages.proofs.CheckLaws.{pass, passed, size-right}

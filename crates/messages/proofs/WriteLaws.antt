@@ -10,7 +10,7 @@ use lib.Dec.{leb, ltb}
 use borrow.Rule.Slice.PartMut.{putMid, same-len-mid}
 use lib.ListN.{length, take, drop, length-append, length-replicate}
 use lib.Seq.{sets}
-use Rattle.messages.specs.Octets.{bytes, splice}
+use Rattle.octets.specs.Octets.{bytes, splice}
 use Rattle.messages.specs.Layout.{Field, Values, width, size, encode, fits}
 use Rattle.messages.specs.Table as table
 use Rattle.messages.specs.Table.{groupCount, typeOf, payloadSize, head, filledSize, writtenSize, broadcast, isUnicast, matchFields, keyFields, payload}
@@ -22,7 +22,7 @@ use Rattle.messages.specs.declared.kinds.Kind.the-variants as kind
 use Rattle.messages.specs.declared.writer.Head.{Head}
 use Rattle.messages.specs.declared.Message.{Message}
 use Rattle.messages.specs.declared.Message.the-variants.{SlacParmReq, SlacParmCnf, StartAttenCharInd, AttenCharInd, AttenCharRsp, MnbcSoundInd, SlacMatchReq, SlacMatchCnf, AttenProfileInd}
-use Rattle.messages.proofs.OctetLaws.{bytes-zero, sets-append, sets-splice, sets-lent}
+use Rattle.octets.proofs.OctetLaws.{bytes-zero, sets-append, sets-splice, sets-lent}
 use Rattle.messages.proofs.TableLaws.{size-payload, unicast-lt, addressed-lt}
 use Rattle.messages.proofs.CheckLaws.{pass, fail}
 use Rattle.messages.proofs.LayoutLaws.{first, rest, Fits, Full, full-cons, encode-cons, length-encode, to-fits, from-fits, and-right}

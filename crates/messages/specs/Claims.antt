@@ -6,7 +6,7 @@ use mathlib.Core.List.{List, _++_}
 use mathlib.Core.Option.{some}
 use lib.Dec.{leb}
 use lib.ListN.{take}
-use Rattle.messages.specs.Octets.{Octets}
+use Rattle.octets.specs.Octets.{Octets}
 use Rattle.messages.specs.Table.{isUnicast, filledSize, writtenSize, Message}
 use Rattle.messages.specs.Reading.{yes, check, readRules, carOf}
 use Rattle.messages.specs.Writing.{padding, writeRules}

@@ -4,7 +4,7 @@ use mathlib.Core.Bool.{Bool, true, _&&_}
 use mathlib.Core.List.{List, [], _∷_, _++_}
 use lib.Dec.{eqb, ltb}
 use lib.ListN.{length}
-use Rattle.messages.specs.Octets.{value, bytes, lowValue, lowBytes, part}
+use Rattle.octets.specs.Octets.{value, bytes, lowValue, lowBytes, part}
 
 pub data Field : Type 0 where
   -- n octets that hold the number v: fixed octets, zero runs, and octets equal to an address

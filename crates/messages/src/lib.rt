@@ -1,13 +1,13 @@
 // The nine messages of SLAC matching (ISO 15118-3 Annex A over HomePlug Green PHY): reading and writing their frames.
 mod kinds;
-mod octets;
 mod reader;
+mod runs;
 mod writer;
 
 use kinds::KindAnswer;
 ghost use mathlib.Core.Path.{_≡_};
 ghost use lib.ListN.{length};
-ghost use Rattle.messages.specs.Octets.{splice};
+ghost use Rattle.octets.specs.Octets.{splice};
 ghost use Rattle.messages.specs.Table.{isUnicast};
 ghost use Rattle.messages.specs.Reading.{readRules, groupsOf, noGroups};
 ghost use Rattle.messages.specs.Writing.{writeRules, lengthOf, octetsOf};
@@ -40,7 +40,7 @@ pub const GROUPS: usize = 58;
 // The group values of ATTEN_PROFILE.
 pub type GroupValues = [u8; GROUPS];
 
-// Why a call gives no answer, in the order of the numbers 1 to 17.
+// Why a call gives no answer, in the order of the numbers from 1 on.
 pub enum Refusal {
     TooShort,
     BadHead,
@@ -59,6 +59,9 @@ pub enum Refusal {
     OutputTooShort,
     BadConfiguration,
     OnlyForCars,
+    ReportsFull,
+    OnlyForStations,
+    NoSounds,
 }
 
 // A message without its group values.
@@ -130,7 +133,7 @@ pub const BROADCAST: u64 = 0xFFFFFFFFFFFF;
 // The first number that is no NID: 2^54.
 pub const NID_LIMIT: u64 = 0x40000000000000;
 
-// A refusal's number, 1 to 17.
+// A refusal's number, from 1 on.
 pub fn refusal_number(refusal: Refusal) -> u32
     ensures { λ r. ⌜ r ≡ numberOf refusal ⌝ }
 {
@@ -152,6 +155,9 @@ pub fn refusal_number(refusal: Refusal) -> u32
         Refusal::OutputTooShort => 15,
         Refusal::BadConfiguration => 16,
         Refusal::OnlyForCars => 17,
+        Refusal::ReportsFull => 18,
+        Refusal::OnlyForStations => 19,
+        Refusal::NoSounds => 20,
     }
 }
 
@@ -187,12 +193,12 @@ pub fn groups(frame: &[u8]) -> GroupValues
             car: _,
             run: _,
             sounds: _,
-        } => octets::groups_at(frame, kinds::HEAD + 52),
+        } => runs::groups_at(frame, kinds::HEAD + 52),
         Message::AttenProfileInd {
             modem: _,
             station: _,
             car: _,
-        } => octets::groups_at(frame, kinds::HEAD + 8),
+        } => runs::groups_at(frame, kinds::HEAD + 8),
         _ => no_groups(),
     }
 }

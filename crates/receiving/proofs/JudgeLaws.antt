@@ -31,7 +31,7 @@ use Rattle.rules.specs.Received.{Request, forRecord, matchReq, Received, receiv
 use Rattle.rules.specs.Stations.{Done, shared, inner}
 use Rattle.rules.specs.Frames.{stateRule, admitted}
 use Rattle.rules.specs.Rules.{rule}
-use Rattle.ends.proofs.Logic.{OnYes}
+use Rattle.ends.proofs.Logic.{OnYes, then-check}
 use Rattle.rules.proofs.ReceivedLaws.{ReadAs, read-as}
 use Rattle.receiving.specs.declared.judge.Judged.{Judged}
 use Rattle.receiving.specs.declared.judge.Judged.the-variants as judged
@@ -146,11 +146,6 @@ state-takes o (Joining l d k) rs c (forRecord m) = refl
 state-takes o (Joining l d k) rs c (matchReq run) = refl
 state-takes o Matched rs c m = refl
 
--- a test before what follows
-then-check : (b : Bool) (y : Asking) (f : Asking → Checked Done) → check b 8 (f y) ≡ andThen (check b 8 (yes y)) f
-then-check true y f = refl
-then-check false y f = refl
-
 module _ (s : Station) where
   -- what a judged request does
   abbrev pub taken : Asking → Checked Done
@@ -159,7 +154,7 @@ module _ (s : Station) where
   -- judging leaves what follows as it is
   judged-then : (x : Checked Received) → andThen x (λ (y : Received). taken (asking y)) ≡ andThen (stateJudged (s .state) (andThen x (λ (y : Received). yes (asking y)))) taken
   judged-then (no n) = refl
-  judged-then (yes y) = state-takes (s .config) (s .state) (s .records) (y .car) (y .request) ∙ then-check (takes (s .state) (y .request)) (asking y) taken
+  judged-then (yes y) = state-takes (s .config) (s .state) (s .records) (y .car) (y .request) ∙ then-check (takes (s .state) (y .request)) 8 (yes (asking y)) taken
 
   -- the rule of a frame
   pub frame-judged : (octets : List ℕ) (room : ℕ) → rule (shared s) (inner s) (calls.frame octets room) ≡ andThen (judgeRule (s .config) (s .state) room octets) taken

@@ -1,10 +1,10 @@
 -- The steps of the loops over the groups and over the records, each once over the length.
 use Prim.Native.Nat.{ℕ, _+_, _≤_, _<_}
 use mathlib.Core.Path.{_≡_, refl, sym, ap₂, _∙_}
-use mathlib.Core.List.{List, [], _∷_, _++_, map, append-assoc, append-nil}
+use mathlib.Core.List.{List, [], _∷_, _++_, append-assoc, append-nil}
 use native.Mathlib.Omega.{arith}
 use native.Mathlib.Numerals.{add-one}
-use lib.ListN.{length, take, drop, getD, set, length-set, length-map, drop-of-length-le}
+use lib.ListN.{length, take, drop, getD, set, length-set, drop-of-length-le}
 use lib.Seq.{take-suc-set, drop-set-lt, take-all, getD-set-other}
 use Rattle.rules.specs.Records.{added}
 use Rattle.ends.proofs.ListLaws.{drop-next}
@@ -18,12 +18,6 @@ take-next l i v h = rw add-one (take-suc-set l i v h)
 -- a store leaves the elements behind it
 drop-stored : {A : Type 0} (l : List A) (i : ℕ) (v : A) → drop (i + 1) (set l i v) ≡ drop (i + 1) l
 drop-stored l i v = drop-set-lt (i + 1) l i v (omega arith)
-
--- the length of an array of structs that is a field
-module _ {A B : Type 0} (f : A → B) where
-  -- it is that of the array as it is laid out
-  pub length-mapped : (l : List A) (n : ℕ) → length (map f l) ≡ n → length l ≡ n
-  length-mapped l n e = sym (length-map l f) ∙ e
 
 -- ---- values added to sums
 

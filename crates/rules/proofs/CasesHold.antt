@@ -1,6 +1,6 @@
 -- The cases P1 to P12 hold: both sides of the table compute to the same.
 use mathlib.Core.Path.{refl}
-use Rattle.messages.specs.Octets.{value, bytes, lowValue, lowBytes}
+use Rattle.octets.specs.Octets.{value, bytes, lowValue, lowBytes}
 use Rattle.messages.specs.Reading.{kindRules, readRules}
 use Rattle.messages.specs.Writing as writing
 use Rattle.ends.specs.Lists.{only, joins}

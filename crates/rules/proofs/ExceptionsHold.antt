@@ -1,6 +1,6 @@
 -- The examples that show demand 3's exceptions needed compute as they must.
 use mathlib.Core.Path.{refl}
-use Rattle.messages.specs.Octets.{value, bytes, lowValue, lowBytes}
+use Rattle.octets.specs.Octets.{value, bytes, lowValue, lowBytes}
 use Rattle.messages.specs.Reading.{kindRules, readRules}
 use Rattle.messages.specs.Writing as writing
 use Rattle.ends.specs.Lists.{only, joins}

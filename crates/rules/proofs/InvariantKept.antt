@@ -13,7 +13,7 @@ use Rattle.messages.specs.declared.Nid.{Nid}
 use Rattle.messages.specs.declared.Nmk.{Nmk}
 use Rattle.messages.specs.declared.RunId.{RunId}
 use Rattle.messages.specs.declared.StationAddress.{StationAddress}
-use Rattle.messages.specs.Octets.{Octets}
+use Rattle.octets.specs.Octets.{Octets}
 use Rattle.messages.specs.Table.{isUnicast, groupCount}
 use Rattle.messages.specs.Reading.{Checked, no, yes}
 use Rattle.messages.proofs.LayoutLaws.{and-left, and-right}

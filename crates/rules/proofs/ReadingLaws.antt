@@ -3,11 +3,11 @@ use Prim.Native.Nat.{ℕ, zero, suc, _+_}
 use mathlib.Core.List.{List, [], _∷_}
 use native.Mathlib.Omega.{arith}
 use lib.ListN.{take, drop, replicate}
-use Rattle.messages.specs.Octets.{part, Octets}
+use Rattle.octets.specs.Octets.{part, Octets}
 use Rattle.messages.specs.Layout.{Field, is, number, low, octets, reserved, Values, size, holds, read}
 use Rattle.messages.specs.Table.{Kind, slacParmReq, slacParmCnf, startAttenCharInd, attenCharInd, attenCharRsp, mnbcSoundInd, slacMatchReq, slacMatchCnf, attenProfileInd, groupCount, head, payload, Message, addressed}
 use Rattle.messages.specs.Reading.{Checked, no, yes, noGroups, groupsIn, kindRules, payloadRules, frameRules, readRules}
-use Rattle.messages.proofs.OctetLaws.{octets-drop}
+use Rattle.octets.proofs.OctetLaws.{octets-drop}
 use Rattle.ends.proofs.Logic.{OnYes, on-check}
 
 abbrev OctetGroups : Message → Type 0

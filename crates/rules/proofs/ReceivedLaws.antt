@@ -5,7 +5,7 @@ use mathlib.Core.Bool.{Bool, true, false}
 use mathlib.Core.List.{List}
 use mathlib.Core.Option.{some}
 use lib.Dec.{leb}
-use Rattle.messages.specs.Octets.{Octets}
+use Rattle.octets.specs.Octets.{Octets}
 use Rattle.messages.specs.Layout.{Values}
 use Rattle.messages.specs.Table.{Kind, slacParmReq, slacParmCnf, startAttenCharInd, attenCharInd, attenCharRsp, mnbcSoundInd, slacMatchReq, slacMatchCnf, attenProfileInd, isUnicast, payload, Message}
 use Rattle.messages.specs.Reading.{Checked, no, yes, groupsIn, carOf, readRules}

@@ -5,7 +5,7 @@ use mathlib.Core.Bool.{true, false}
 use mathlib.Core.List.{List, [], _∷_}
 use lib.Dec.{eqb}
 use Rattle.messages.specs.declared.CarAddress.{CarAddress}
-use Rattle.messages.specs.Octets.{value}
+use Rattle.octets.specs.Octets.{value}
 use Rattle.messages.specs.Table.{isUnicast}
 use Rattle.messages.proofs.TableLaws.{unicast-lt}
 use Rattle.messages.proofs.RoundTrips.{frame-destination}

@@ -6,7 +6,7 @@ use Rattle.messages.specs.declared.ModemAddress.{ModemAddress}
 use Rattle.messages.specs.declared.Nid.{Nid}
 use Rattle.messages.specs.declared.Nmk.{Nmk}
 use Rattle.messages.specs.declared.StationAddress.{StationAddress}
-use Rattle.messages.specs.Octets.{splice}
+use Rattle.octets.specs.Octets.{splice}
 use Rattle.messages.specs.Reading.{Checked, no, yes}
 use Rattle.messages.specs.Answers.{numberOf}
 use Rattle.rules.specs.declared.Configured.{Configured}

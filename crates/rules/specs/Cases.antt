@@ -16,6 +16,7 @@ use Rattle.rules.specs.declared.State.{State}
 use Rattle.rules.specs.declared.State.the-variants.{Unmatched, Matching}
 use Rattle.rules.specs.declared.Station.{Station}
 use Rattle.rules.specs.Constants.{recordCount, leastOutput}
+use Rattle.ends.specs.FirstFrames.{request, p1, p2}
 use Rattle.ends.specs.Lists.{only}
 use Rattle.rules.specs.Calls.{Call, frame, tick, pilot}
 use Rattle.ends.specs.Outcomes.{Outcome}
@@ -79,23 +80,6 @@ others zero = []
 others (suc n) = held (2 + n) (Asked 400) 0 0 0 ∷ others n
 
 -- ---- octets
-
--- the request of the car 02:00:00:00:00:n
-abbrev request : ℕ → List ℕ
-request n =
-    0xFF ∷ 0xFF ∷ 0xFF ∷ 0xFF ∷ 0xFF ∷ 0xFF ∷ 0x02 ∷ 0x00 ∷ 0x00 ∷ 0x00 ∷ 0x00 ∷ n ∷ 0x88 ∷ 0xE1 ∷ 0x01 ∷ 0x64 ∷ 0x60 ∷ 0x00 ∷ 0x00
-    ∷ 0x00 ∷ 0x00 ∷ 0x01 ∷ 0x02 ∷ 0x03 ∷ 0x04 ∷ 0x05 ∷ 0x06 ∷ 0x07 ∷ 0x08 ∷ replicate 31 0x00
-
--- "P1 a car 02:00:00:00:00:01, run 01..08"
-abbrev p1 : List ℕ
-p1 = request 0x01
-
--- "P2 its reply, just after plug-in, from 02:00:00:00:00:AA"
-abbrev p2 : List ℕ
-p2 =
-    0x02 ∷ 0x00 ∷ 0x00 ∷ 0x00 ∷ 0x00 ∷ 0x01 ∷ 0x02 ∷ 0x00 ∷ 0x00 ∷ 0x00 ∷ 0x00 ∷ 0xAA ∷ 0x88 ∷ 0xE1 ∷ 0x01 ∷ 0x65 ∷ 0x60 ∷ 0x00 ∷ 0x00
-    ∷ 0xFF ∷ 0xFF ∷ 0xFF ∷ 0xFF ∷ 0xFF ∷ 0xFF ∷ 0x0A ∷ 0x06 ∷ 0x01 ∷ 0x02 ∷ 0x00 ∷ 0x00 ∷ 0x00 ∷ 0x00 ∷ 0x01 ∷ 0x00 ∷ 0x00
-    ∷ 0x01 ∷ 0x02 ∷ 0x03 ∷ 0x04 ∷ 0x05 ∷ 0x06 ∷ 0x07 ∷ 0x08 ∷ replicate 16 0x00
 
 -- PROFILE of the car of P1, from the modem, with the value v in every group
 abbrev profileOf : ℕ → List ℕ

@@ -6,7 +6,7 @@ use mathlib.Core.List.{List, [], _∷_, _++_}
 use mathlib.Core.Option.{Option, none, some}
 use lib.Dec.{eqb}
 use Rattle.messages.specs.declared.CarAddress.{CarAddress}
-use Rattle.messages.specs.Octets.{value}
+use Rattle.octets.specs.Octets.{value}
 use Rattle.messages.specs.Table.{Kind, slacParmReq, slacMatchReq, typeOf, Message}
 use Rattle.messages.specs.Reading.{Checked, no, yes, readRules, carOf}
 use Rattle.rules.specs.declared.Station.{Station}

@@ -7,7 +7,7 @@ use types.Run.{OneOf, miss}
 use Rattle.messages.specs.declared.CarAddress.{CarAddress}
 use Rattle.messages.specs.declared.Refusal.{Refusal}
 use Rattle.messages.specs.Answers.{numberOf}
-use Rattle.messages.specs.Octets.{Octets, splice}
+use Rattle.octets.specs.Octets.{Octets, splice}
 use Rattle.messages.specs.Reading.{Checked, no, yes}
 use Rattle.rules.specs.declared.Configuration.{Configuration}
 use Rattle.ends.specs.declared.Indication.the-variants.{Nothing}

@@ -5,7 +5,7 @@ use mathlib.Core.Bool.{true}
 use mathlib.Core.List.{List, [], _∷_}
 use Rattle.messages.specs.declared.CarAddress.{CarAddress}
 use Rattle.messages.specs.declared.RunId.{RunId}
-use Rattle.messages.specs.Octets.{Octets}
+use Rattle.octets.specs.Octets.{Octets}
 use Rattle.messages.specs.Reading.{Checked, no, yes, groupsOf, readRules}
 use Rattle.messages.specs.Table.{isUnicast}
 use Rattle.messages.specs.Table as table

@@ -1,6 +1,6 @@
 -- Sending a reply: it can be written, and it stands in the output.
 use Prim.Native.Nat.{ℕ, _^_, _<_, _≤_}
-use mathlib.Core.Path.{_≡_, refl, sym, ap, _∙_, subst}
+use mathlib.Core.Path.{_≡_, refl, sym, ap, _∙_}
 use mathlib.Core.Bool.{true, _&&_}
 use mathlib.Core.List.{List, [], _∷_, map}
 use native.Mathlib.Omega.{arith}
@@ -11,7 +11,7 @@ use Rattle.messages.specs.declared.Message.{Message}
 use Rattle.messages.specs.declared.Message.the-variants.{SlacParmCnf, AttenCharInd, SlacMatchCnf}
 use Rattle.messages.specs.declared.RunId.{RunId}
 use Rattle.messages.specs.Answers.{messageOf}
-use Rattle.messages.specs.Octets.{splice}
+use Rattle.octets.specs.Octets.{splice}
 use Rattle.messages.specs.Reading.{yes, noGroups}
 use Rattle.messages.specs.Table as table
 use Rattle.messages.specs.Table.{groupCount, isUnicast, writtenSize}
@@ -43,10 +43,6 @@ one-sent s st rs m entry exit x a w ex e = record {
 }
 
 -- ---- the replies can be written
-
--- a message in other words
-pub writable-as : (m k : table.Message) (n : ℕ) → m ≡ k → Writable k n → Writable m n
-writable-as m k n e w = subst (λ (x : table.Message). Writable x n) (sym e) w
 
 module _ (o : Configuration) (c : CarAddress) (n : ℕ) (us : isUnicast (o .address .0) ≡ true) (car : isUnicast (c .0) ≡ true) where
   -- both addresses are unicast

@@ -7,8 +7,8 @@ use native.Mathlib.Nat.{zero-add}
 use lib.ListN.{length, take, drop, length-append, length-drop, drop-of-length-le}
 use lib.Seq.{take-at, drop-at, drop-drop, length-take-le}
 use borrow.Rule.Slice.PartMut.{putMid}
-use Rattle.messages.specs.Octets.{splice}
-use Rattle.messages.proofs.OctetLaws.{lent-part}
+use Rattle.octets.specs.Octets.{splice}
+use Rattle.octets.proofs.OctetLaws.{lent-part}
 
 -- octets written to the front of a part that is lent from a on, once it is back in its place
 pub splice-lent : (d ws ys : List ℕ) (a : ℕ) → a ≤ length d → ys ≡ splice 0 ws (take (length d - a) (drop a d)) → putMid a (length d - a) d ys ≡ splice a ws d

@@ -6,10 +6,9 @@ use mathlib.Core.List.{List, map}
 use lib.ListN.{length, set}
 use Rattle.messages.specs.declared.CarAddress.{CarAddress}
 use Rattle.messages.specs.declared.RunId.{RunId}
-use Rattle.messages.specs.Octets.{splice}
+use Rattle.octets.specs.Octets.{splice}
 use Rattle.messages.specs.Reading.{Checked, no, yes}
-use Rattle.messages.specs.Table.{isUnicast, writtenSize, Message}
-use Rattle.messages.specs.Writing.{isAddressed, isLimited}
+use Rattle.messages.specs.Table.{isUnicast}
 use Rattle.ends.specs.declared.Indication.the-variants.{Nothing}
 use Rattle.rules.specs.declared.State.the-variants.{Joining}
 use Rattle.rules.specs.declared.Station.{Station}
@@ -23,12 +22,6 @@ use Rattle.rules.specs.Replies.{framesTo}
 use Rattle.rules.specs.Frames.{Kept, matchRule, confirmed}
 use Rattle.rules.specs.Invariant.{GoodRecord, Invariant}
 use Rattle.ends.specs.Answers.{answerOf, summary}
-
--- a message that an output of n octets takes
-pub record Writable (m : Message) (n : ℕ) : Type 0 where
-  pub addressed : isAddressed m ≡ true
-  pub limited : isLimited m ≡ true
-  pub room : writtenSize (m .kind) ≤ n
 
 -- a reply to car c can be sent
 pub record Ready (s : Station) (c : CarAddress) (out : List ℕ) : Type 0 where

@@ -3,7 +3,7 @@ use Prim.Native.Nat.{ℕ}
 use mathlib.Core.Path.{_≡_}
 use mathlib.Core.List.{List}
 use Rattle.messages.specs.declared.Refusal.{Refusal}
-use Rattle.messages.specs.Octets.{splice}
+use Rattle.octets.specs.Octets.{splice}
 use Rattle.messages.specs.Reading.{yes}
 use Rattle.ends.specs.declared.Answer.the-variants as answer
 use Rattle.ends.specs.declared.Indication.{Indication}

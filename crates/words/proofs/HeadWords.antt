@@ -21,9 +21,11 @@ use Rattle.rules.specs.Invariant.{GoodRecord, GoodConfiguration}
 use Rattle.rules.specs.Rules.{isGood}
 use Rattle.words.specs.Words.{headCount, wordCount, sumCount, recordOf, recordsOf, configOf, stateBy, stateOf, stationOf, withRecords}
 use Rattle.rules.specs.Numbers.{pilotOf}
-use Rattle.words.specs.Written.{flagOf, stateNumber, stateTime, stateCar, stateRun, pilotNumber, wordsOf, headOf}
-use Rattle.words.proofs.RunLaws.{getD-before, getD-front}
-use Rattle.words.proofs.RecordWords.{place, length-records, record-put, flag-and, record-back}
+use Rattle.ends.specs.Words.{flagOf}
+use Rattle.words.specs.Written.{stateNumber, stateTime, stateCar, stateRun, pilotNumber, wordsOf, headOf}
+use Rattle.ends.proofs.RunLaws.{getD-before, getD-front}
+use Rattle.words.proofs.RecordWords.{place, length-records, record-put, record-back}
+use Rattle.ends.proofs.WordLaws.{flag-and}
 
 -- ---- what the head says
 

@@ -1,4 +1,3 @@
-pub mod RunLaws
 pub mod CopyLaws
 pub mod RecordWords
 pub mod HeadWords

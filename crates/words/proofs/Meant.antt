@@ -16,7 +16,8 @@ use Rattle.rules.specs.Records.{isHeld}
 use Rattle.rules.specs.Rules.{isGood, freeRecord, configured}
 use Rattle.rules.proofs.InvariantKept.{configured-keeps}
 use Rattle.ends.proofs.Logic.{split}
-use Rattle.words.specs.Words.{headCount, width, runs, phaseOf, profilesOf, sumsOf, recordOf, recordsOf, configOf, stateOf, stationOf}
+use Rattle.ends.specs.Words.{runs}
+use Rattle.words.specs.Words.{headCount, width, phaseOf, profilesOf, sumsOf, recordOf, recordsOf, configOf, stateOf, stationOf}
 use Rattle.rules.specs.Numbers.{pilotOf}
 
 -- ---- a record

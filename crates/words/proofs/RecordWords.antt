@@ -7,8 +7,8 @@ use native.Mathlib.Omega.{arith}
 use native.Mathlib.Nat.{add-zero}
 use lib.Dec.{eqb}
 use lib.ListN.{length, getD, take, drop, set, length-drop, List·getD-eq-default}
-use lib.Seq.{sets, drop-drop, getD-take, getD-drop}
-use Rattle.messages.specs.Octets.{part}
+use lib.Seq.{sets, drop-drop}
+use Rattle.octets.specs.Octets.{part}
 use Rattle.messages.specs.Table.{groupCount, isUnicast}
 use Rattle.messages.specs.declared.CarAddress.{CarAddress}
 use Rattle.rules.specs.declared.Phase.{Phase}
@@ -18,10 +18,13 @@ use Rattle.ends.specs.Constants.{soundCount}
 use Rattle.rules.specs.Constants.{recordCount}
 use Rattle.rules.specs.Invariant.{InPhase, GoodRecord}
 use Rattle.rules.specs.Records.{isHeld}
-use Rattle.words.specs.Words.{headCount, width, wordCount, sumCount, runs, phaseOf, profilesOf, mostSum, sumsOf, recordOf, recordsOf}
-use Rattle.words.specs.Written.{flagOf, phaseNumber, phaseRetries, wordsOf}
+use Rattle.ends.specs.Words.{runs}
+use Rattle.words.specs.Words.{headCount, width, wordCount, sumCount, phaseOf, profilesOf, mostSum, sumsOf, recordOf, recordsOf}
+use Rattle.ends.specs.Words.{flagOf}
+use Rattle.words.specs.Written.{phaseNumber, phaseRetries, wordsOf}
 use Rattle.records.specs.Timers.{timeOf}
-use Rattle.words.proofs.RunLaws.{drop-sets, length-runs, runs-at, runs-sets, length-zip, zip-set, zip-at}
+use Rattle.ends.proofs.WordLaws.{flag-and, word-at}
+use Rattle.ends.proofs.RunLaws.{drop-sets, length-runs, runs-at, runs-sets, length-zip, zip-set, zip-at}
 
 -- where the words of the record at a place begin
 abbrev pub place : ℕ → ℕ
@@ -53,29 +56,20 @@ module _ (w s : List ℕ) where
       (runs-sets recordCount groupCount i s t lt (omega arith))
       ∙ zip-set recordOf (runs recordCount width (drop headCount w)) (runs recordCount groupCount s) i v t
 
--- a word of a record
-word-at : (w : List ℕ) (at j : ℕ) → j < width → getD (part w at width) j 0 ≡ getD w (at + j) 0
-word-at w at j h = getD-take width (drop at w) j 0 h ∙ getD-drop at w j 0
-
 module _ (w s : List ℕ) (i : ℕ) (d : Record) (h : i < recordCount) where
   pub held-at : isHeld (getD (recordsOf w s) i d) ≡ eqb (getD w (place i) 0) 1 && isUnicast (getD w (place i + 1) 0)
   unfolding isHeld recordOf
-  held-at = rw (record-at w s i d h, word-at w (place i) 0 (omega arith), word-at w (place i) 1 (omega arith), add-zero)
+  held-at = rw (record-at w s i d h, word-at w (place i) width 0 (omega arith), word-at w (place i) width 1 (omega arith), add-zero)
 
   pub car-at : getD (recordsOf w s) i d .car .0 ≡ getD w (place i + 1) 0
   unfolding recordOf
-  car-at = rw (record-at w s i d h, word-at w (place i) 1 (omega arith))
+  car-at = rw (record-at w s i d h, word-at w (place i) width 1 (omega arith))
 
 -- ---- a record's own words, and back
 
 flag-back : (b : Bool) → eqb (flagOf b) 1 ≡ b
 flag-back true = refl
 flag-back false = refl
-
--- a flag with a test that it passes
-pub flag-and : (b t : Bool) → (b ≡ true → t ≡ true) → eqb (flagOf b) 1 && t ≡ b
-flag-and true t h = h refl
-flag-and false t h = refl
 
 phase-back : (p : Phase) (n : ℕ) → InPhase p n → phaseOf (phaseNumber p) (timeOf p) (phaseRetries p) ≡ p
 unfolding phaseOf
@@ -128,7 +122,7 @@ module _ (w s : List ℕ) (i : ℕ) (d : Record) (h : i < recordCount) where
   read-is x eh ec er ep ee en es =
       let v = part w (place i) width in
       let b = record-at w s i d h in
-      let word : (j : ℕ) → j < width → getD w (place i + j) 0 ≡ getD v j 0 = λ j k. sym (word-at w (place i) j k) in
+      let word : (j : ℕ) → j < width → getD w (place i + j) 0 ≡ getD v j 0 = λ j k. sym (word-at w (place i) width j k) in
       let held : x .held ≡ eqb (getD v 0 0) 1 && isUnicast (getD v 1 0) = eh ∙ ap isHeld b in
       let car : x .car .0 ≡ getD v 1 0 = ap (λ (c : CarAddress). c .0) ec ∙ ap (λ (r : Record). r .car .0) b in
       let run : x .run .0 ≡ getD v 2 0 = er ∙ word 2 (omega arith) in

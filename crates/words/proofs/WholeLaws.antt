@@ -3,22 +3,13 @@ use Prim.Native.Nat.{ℕ, _+_, _≤_, _<_}
 use mathlib.Core.Path.{_≡_, refl, sym, ap, _∙_}
 use mathlib.Core.List.{List}
 use native.Mathlib.Omega.{arith}
-use native.Mathlib.Numerals.{add-one}
 use lib.ListN.{length, getD, take, set, length-set}
-use lib.Seq.{take-suc, take-suc-set, take-all}
 use Rattle.rules.specs.declared.Record.{Record}
 use Rattle.rules.specs.declared.Station.{Station}
 use Rattle.rules.specs.Constants.{recordCount}
 use Rattle.words.specs.Words.{recordsOf, stationOf, withRecords}
+use Rattle.ends.proofs.WordLaws.{take-more, take-whole}
 use Rattle.words.proofs.RecordWords.{length-records}
-
--- one element more that two lists share
-take-more : (l m : List Record) (i : ℕ) (z : Record) → take i l ≡ take i m → i < length l → i < length m → take (i + 1) (set l i (getD m i z)) ≡ take (i + 1) m
-take-more l m i z e h k = rw (add-one i, take-suc-set l i (getD m i z) h, e) (sym (take-suc m i z k))
-
--- all elements
-take-whole : (l m : List Record) (i : ℕ) → take i l ≡ take i m → length l ≤ i → length m ≤ i → l ≡ m
-take-whole l m i e h k = sym (take-all i l h) ∙ e ∙ take-all i m k
 
 -- ---- out
 

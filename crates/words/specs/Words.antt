@@ -1,9 +1,9 @@
 -- A station as words and sums: what any two lists of numbers mean.
-use Prim.Native.Nat.{ℕ, zero, suc, _+_, _*_, _-_, _^_, _%_, min, max}
+use Prim.Native.Nat.{ℕ, _+_, _*_, _-_, _^_, _%_, min, max}
 use mathlib.Core.Bool.{cond, _&&_}
-use mathlib.Core.List.{List, [], _∷_, map, zipWith}
+use mathlib.Core.List.{List, map, zipWith}
 use lib.Dec.{eqb}
-use lib.ListN.{length, getD, take, drop}
+use lib.ListN.{length, getD, drop}
 use Rattle.messages.specs.Table.{groupCount, isUnicast}
 use Rattle.rules.specs.declared.Configuration.{Configuration}
 use Rattle.rules.specs.declared.Phase.{Phase}
@@ -15,6 +15,7 @@ use Rattle.rules.specs.declared.Station.{Station}
 use Rattle.ends.specs.Constants.{retryCount, soundCount}
 use Rattle.rules.specs.Constants.{askedTime, soundingTime, reportedTime, awaitingTime, recordCount}
 use Rattle.ends.specs.Lists.{only}
+use Rattle.ends.specs.Words.{timeWithin, runs}
 use Rattle.rules.specs.Numbers.{pilotOf}
 use Rattle.rules.specs.Records.{isHeld}
 use Rattle.rules.specs.Rules.{isGood}
@@ -38,17 +39,7 @@ wordCount = headCount + width * recordCount
 abbrev pub sumCount : ℕ
 sumCount = groupCount * recordCount
 
-module _ {A : Type 0} where
-  -- n runs of k elements each, side by side
-  unfoldable pub runs : ℕ → ℕ → List A → List (List A)
-  runs zero k l = []
-  runs (suc n) k l = take k l ∷ runs n k (drop k l)
-
 -- ---- a record
-
--- a phase's time left: from 1 to its start value
-abbrev pub timeWithin : ℕ → ℕ → ℕ
-timeWithin start n = min start (max 1 n)
 
 -- a phase by its number, with its time and its retries: any other number is Asked, the first of them
 unfoldable pub phaseOf : ℕ → ℕ → ℕ → Phase

@@ -1,6 +1,5 @@
 -- The words that are written for the parts of a station.
 use Prim.Native.Nat.{ℕ}
-use mathlib.Core.Bool.{Bool, true, false}
 use mathlib.Core.List.{List, [], _∷_}
 use Rattle.rules.specs.declared.Configuration.{Configuration}
 use Rattle.rules.specs.declared.Phase.{Phase}
@@ -10,12 +9,8 @@ use Rattle.rules.specs.declared.Pilot.the-variants.{A, B, C, D, E, F}
 use Rattle.rules.specs.declared.Record.{Record}
 use Rattle.rules.specs.declared.State.{State}
 use Rattle.rules.specs.declared.State.the-variants.{Unmatched, Matching, Joining, Matched}
+use Rattle.ends.specs.Words.{flagOf}
 use Rattle.records.specs.Timers.{timeOf}
-
--- 1 for what is so, 0 for what is not
-abbrev pub flagOf : Bool → ℕ
-flagOf true = 1
-flagOf false = 0
 
 -- the number of a phase
 abbrev pub phaseNumber : Phase → ℕ

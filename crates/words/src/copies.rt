@@ -4,22 +4,10 @@ ghost use mathlib.Core.Path.{_≡_};
 ghost use Prim.Native.Nat.{_+_, _≤_};
 ghost use lib.ListN.{length, replicate};
 ghost use lib.Seq.{sets};
-ghost use Rattle.messages.specs.Octets.{part};
+ghost use Rattle.octets.specs.Octets.{part};
 ghost use Rattle.messages.specs.Table.{groupCount};
 ghost use Rattle.words.specs.Words.{sumsOf};
 use crate::fields;
-
-// Copies src into words from `at`.
-pub(crate) fn put_words(src: &[u64], words: &mut [u64], at: usize)
-    requires { ⌜ at + length (now src) ≤ length (now words) ⌝ }
-    ensures { λ _. ⌜ now (words .exit) ≡ sets (now (words .entry)) at (now (src .entry)) ⌝ }
-{
-    let mut i: usize = 0;
-    while i < src.len() {
-        words[at + i] = src[i];
-        i += 1;
-    }
-}
 
 // Copies src into sums from `at`.
 pub(crate) fn put_sums(src: &[u16], sums: &mut [u16], at: usize)
@@ -29,17 +17,6 @@ pub(crate) fn put_sums(src: &[u16], sums: &mut [u16], at: usize)
     let mut i: usize = 0;
     while i < src.len() {
         sums[at + i] = src[i];
-        i += 1;
-    }
-}
-
-// Stores 0 in every word.
-pub(crate) fn clear_words(words: &mut [u64])
-    ensures { λ _. ⌜ now (words .exit) ≡ replicate (length (now (words .entry))) 0 ⌝ }
-{
-    let mut i: usize = 0;
-    while i < words.len() {
-        words[i] = 0;
         i += 1;
     }
 }

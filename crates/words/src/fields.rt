@@ -11,47 +11,19 @@ use rules::REPORTED_TIME;
 use rules::SOUNDING_TIME;
 use rules::State;
 ghost use mathlib.Core.Path.{_≡_};
-ghost use Prim.Native.Nat.{_*_, _^_, _%_, _<_, min, max};
+ghost use Prim.Native.Nat.{_*_, _^_, _%_, _<_, min};
 ghost use Rattle.ends.specs.Constants.{soundCount};
-ghost use Rattle.words.specs.Words.{timeWithin, phaseOf, profilesOf, mostSum, stateBy};
-ghost use Rattle.words.specs.Written.{flagOf, phaseNumber, phaseRetries, stateTime, stateCar, stateRun, pilotNumber};
+ghost use Rattle.words.specs.Words.{phaseOf, profilesOf, mostSum, stateBy};
+ghost use Rattle.words.specs.Written.{phaseNumber, phaseRetries, stateTime, stateCar, stateRun, pilotNumber};
 
 // How many sets of sound counts there are: two to the number of sounds.
 const HEARD_SETS: u64 = 1024;
-
-// The low 32 binary digits.
-pub(crate) fn low(x: u64) -> u32
-    ensures { λ r. ⌜ r ≡ x % 2 ^ 32 ⌝ }
-{
-    (x % 4294967296) as u32
-}
 
 // A set of sound counts.
 pub(crate) fn heard(x: u64) -> u16
     ensures { λ r. ⌜ r ≡ x % 2 ^ soundCount ⌝ }
 {
     (x % HEARD_SETS) as u16
-}
-
-// x, or 1 where it is 0.
-fn positive(x: u64) -> u64
-    ensures { λ r. ⌜ r ≡ max 1 x ⌝ }
-{
-    if x == 0 { 1 } else { x }
-}
-
-// x, or the most where it is more.
-fn at_most(most: u32, x: u64) -> u32
-    ensures { λ r. ⌜ r ≡ min most x ⌝ }
-{
-    if x < most as u64 { x as u32 } else { most }
-}
-
-// The same for a count.
-fn at_most_count(most: u8, x: u64) -> u8
-    ensures { λ r. ⌜ r ≡ min most x ⌝ }
-{
-    if x < most as u64 { x as u8 } else { most }
 }
 
 // The same for a sum.
@@ -68,30 +40,23 @@ pub(crate) fn most_sum(profiles: u8) -> u16
     255 * (profiles as u16)
 }
 
-// A phase's time left.
-fn time(start: u32, word: u64) -> u32
-    ensures { λ r. ⌜ r ≡ timeWithin start word ⌝ }
-{
-    at_most(start, positive(word))
-}
-
 // A phase by its number; any other number is Asked.
 pub(crate) fn phase(number: u64, left: u64, retries: u64) -> Phase
     ensures { λ r. ⌜ r ≡ phaseOf number left retries ⌝ }
 {
     if number == 1 {
-        return Phase::Sounding(time(SOUNDING_TIME, left));
+        return Phase::Sounding(ends::fields::time(SOUNDING_TIME, left));
     }
     if number == 2 {
         return Phase::Reported {
-            left: time(REPORTED_TIME, left),
-            retries: at_most_count(RETRIES, retries),
+            left: ends::fields::time(REPORTED_TIME, left),
+            retries: ends::fields::at_most_count(RETRIES, retries),
         };
     }
     if number == 3 {
-        return Phase::Awaiting(time(AWAITING_TIME, left));
+        return Phase::Awaiting(ends::fields::time(AWAITING_TIME, left));
     }
-    Phase::Asked(time(ASKED_TIME, left))
+    Phase::Asked(ends::fields::time(ASKED_TIME, left))
 }
 
 // The profiles counted.
@@ -100,12 +65,12 @@ pub(crate) fn profiles(phase: Phase, word: u64) -> u8
 {
     match phase {
         Phase::Asked(_) => 0,
-        Phase::Sounding(_) => at_most_count(SOUNDS - 1, word),
+        Phase::Sounding(_) => ends::fields::at_most_count(SOUNDS - 1, word),
         Phase::Reported {
             left: _,
             retries: _,
-        } => at_most_count(SOUNDS, positive(word)),
-        Phase::Awaiting(_) => at_most_count(SOUNDS, positive(word)),
+        } => ends::fields::at_most_count(SOUNDS, ends::fields::positive(word)),
+        Phase::Awaiting(_) => ends::fields::at_most_count(SOUNDS, ends::fields::positive(word)),
     }
 }
 
@@ -113,27 +78,16 @@ pub(crate) fn profiles(phase: Phase, word: u64) -> u8
 pub(crate) fn state(number: u64, left: u64, car: u64, run: u64) -> State
     ensures { λ r. ⌜ r ≡ stateBy number left car run ⌝ }
 {
-    if number == 1 {
-        return State::Matching(low(left));
-    }
-    if number == 2 {
-        return State::Joining {
-            left: low(left),
+    match number {
+        1 => State::Matching(ends::fields::low(left)),
+        2 => State::Joining {
+            left: ends::fields::low(left),
             car: CarAddress(car),
             run: RunId(run),
-        };
+        },
+        3 => State::Matched,
+        _ => State::Unmatched,
     }
-    if number == 3 {
-        return State::Matched;
-    }
-    State::Unmatched
-}
-
-// 1 for what is so.
-pub(crate) fn flag(b: bool) -> u64
-    ensures { λ r. ⌜ r ≡ flagOf b ⌝ }
-{
-    if b { 1 } else { 0 }
 }
 
 // The number of a phase.
@@ -223,25 +177,4 @@ pub(crate) fn pilot_number(pilot: Pilot) -> u64
         Pilot::E => 4,
         Pilot::F => 5,
     }
-}
-
-// A wider number.
-pub(crate) fn from32(x: u32) -> u64
-    ensures { λ r. ⌜ (r ≡ x) × (x < 2 ^ 32) ⌝ }
-{
-    x as u64
-}
-
-// A wider set of sounds.
-pub(crate) fn from16(x: u16) -> u64
-    ensures { λ r. ⌜ r ≡ x ⌝ }
-{
-    x as u64
-}
-
-// A wider count.
-pub(crate) fn from8(x: u8) -> u64
-    ensures { λ r. ⌜ r ≡ x ⌝ }
-{
-    x as u64
 }

@@ -1,6 +1,5 @@
 // The head: the configuration, the state, the pilot state and the clock.
 use crate::HEAD;
-use crate::copies;
 use crate::fields;
 use messages::ModemAddress;
 use messages::Nid;
@@ -56,7 +55,7 @@ pub(crate) fn clock(words: &[u64]) -> u32
     requires { ⌜ headCount ≤ length (now words) ⌝ }
     ensures { λ r. ⌜ r ≡ getD (now (words .entry)) 11 0 % 2 ^ 32 ⌝ }
 {
-    fields::low(words[11])
+    ends::fields::low(words[11])
 }
 
 // The words of the head.
@@ -67,13 +66,13 @@ fn head_words(config: Configuration, state: State, pilot: Pilot, clock: u32) -> 
     let modem = config.modem;
     let nid = config.nid;
     let nmk = config.nmk;
-    let good = fields::flag(config.good);
-    let number = fields::from32(crate::state_number(state));
-    let left = fields::from32(fields::state_time(state));
+    let good = ends::fields::flag(config.good);
+    let number = ends::fields::from32(crate::state_number(state));
+    let left = ends::fields::from32(fields::state_time(state));
     let car = fields::state_car(state);
     let run = fields::state_run(state);
     let at = fields::pilot_number(pilot);
-    let reading = fields::from32(clock);
+    let reading = ends::fields::from32(clock);
     [
         good,
         address.0,
@@ -96,5 +95,5 @@ pub(crate) fn put(words: &mut [u64], config: Configuration, state: State, pilot:
     ensures { λ _. ⌜ (now (words .exit) ≡ sets (now (words .entry)) 0 (headOf config state pilot clock)) × ((stateTime state < 2 ^ 32) × (clock < 2 ^ 32)) ⌝ }
 {
     let head = head_words(config, state, pilot, clock);
-    copies::put_words(&head, words, 0);
+    ends::runs::put_words(&head, words, 0);
 }

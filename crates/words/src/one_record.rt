@@ -67,12 +67,12 @@ fn record_words(r: Record) -> [u64; WIDTH]
     let car = r.car;
     let run = r.run;
     let phase = r.phase;
-    let held = fields::flag(r.held);
+    let held = ends::fields::flag(r.held);
     let number = fields::phase_number(phase);
-    let left = fields::from32(timers::time_of(phase));
-    let retries = fields::from8(fields::phase_retries(phase));
-    let heard = fields::from16(r.heard);
-    let profiles = fields::from8(r.profiles);
+    let left = ends::fields::from32(timers::time_of(phase));
+    let retries = ends::fields::from8(fields::phase_retries(phase));
+    let heard = ends::fields::from16(r.heard);
+    let profiles = ends::fields::from8(r.profiles);
     [held, car.0, run.0, number, left, retries, heard, profiles]
 }
 
@@ -85,7 +85,7 @@ pub(crate) fn store(words: &mut [u64], sums: &mut [u16], i: usize, r: Record)
         return;
     }
     let own = record_words(r);
-    copies::put_words(&own, words, HEAD + WIDTH * i);
+    ends::runs::put_words(&own, words, HEAD + WIDTH * i);
     let groups = r.sums;
     copies::put_sums(&groups, sums, GROUPS * i);
 }

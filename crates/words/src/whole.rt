@@ -77,6 +77,6 @@ pub(crate) fn wipe(words: &mut [u64], sums: &mut [u16])
     requires { ⌜ (length (now words) ≡ wordCount) × (length (now sums) ≡ sumCount) ⌝ }
     ensures { λ _. ⌜ Wiped (now (words .exit)) (now (sums .exit)) ⌝ }
 {
-    copies::clear_words(words);
+    ends::runs::clear_words(words);
     copies::clear_sums(sums);
 }

@@ -4,7 +4,7 @@ use lib.ListN.{length}
 use Rattle.ends.specs.Clock.{tickTimeOf}
 use Rattle.rules.specs.Constants.{recordCount}
 use Rattle.station.proofs.StepLaws.{accepted, refuses}
-use Rattle.records.proofs.LoopLaws.{length-mapped}
+use Rattle.ends.proofs.ListLaws.{length-mapped}
 use Rattle.station.proofs.TickLaws.{tick-refused, tick-rule, tick-shared, tick-ready}
 use borrow.Author.Needs.{needs}
 use Rattle.station.proofs.tick.Statement.{statement}

@@ -1,7 +1,7 @@
 -- `station::frames::at_own` meets its contract: the car's own record, or 11.
 use Rattle.messages.specs.Reading.{groupsOf, readRules}
 use Rattle.messages.specs.declared.Refusal.the-variants.{WrongState, NoRecord}
-use Rattle.records.proofs.LoopLaws.{length-mapped}
+use Rattle.ends.proofs.ListLaws.{length-mapped}
 use Rattle.records.proofs.PlaceLaws.{OwnAt, found, not-own}
 use Rattle.records.specs.declared.find.Found.the-variants.{Own}
 use Rattle.rules.specs.Constants.{recordCount}

@@ -1,7 +1,7 @@
 -- `station::frames::join` meets its contract: by the verdict at the car's own record, or 11.
 use Rattle.messages.specs.Reading.{yes}
 use Rattle.messages.specs.declared.Refusal.the-variants.{NoRecord}
-use Rattle.records.proofs.LoopLaws.{length-mapped}
+use Rattle.ends.proofs.ListLaws.{length-mapped}
 use Rattle.records.proofs.PlaceLaws.{OwnAt, found, not-own}
 use Rattle.records.specs.Requests.{verdictOf}
 use Rattle.records.specs.declared.find.Found.the-variants.{Own}

@@ -9,7 +9,8 @@ use Rattle.ends.specs.declared.Indication.the-variants.{Nothing}
 use Rattle.station.proofs.ComesLaws.{comes-as}
 use lib.ListN.{length}
 use mathlib.Core.List.{[], _∷_}
-use Rattle.station.proofs.SendLaws.{writable-as, match-cnf-writable}
+use Rattle.ends.proofs.SendLaws.{writable-as}
+use Rattle.station.proofs.SendLaws.{match-cnf-writable}
 use mathlib.Core.Path.{ap}
 use borrow.Author.Needs.{needs}
 use Rattle.station.proofs.sending.match_cnf.Statement.{statement}

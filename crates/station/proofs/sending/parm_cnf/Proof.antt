@@ -9,7 +9,8 @@ use Rattle.ends.specs.declared.Indication.the-variants.{Nothing}
 use Rattle.station.proofs.ComesLaws.{comes-as}
 use lib.ListN.{length}
 use mathlib.Core.List.{[], _∷_}
-use Rattle.station.proofs.SendLaws.{writable-as, parm-cnf-writable}
+use Rattle.ends.proofs.SendLaws.{writable-as}
+use Rattle.station.proofs.SendLaws.{parm-cnf-writable}
 use mathlib.Core.Path.{ap}
 use borrow.Author.Needs.{needs}
 use Rattle.station.proofs.sending.parm_cnf.Statement.{statement}

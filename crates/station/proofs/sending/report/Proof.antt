@@ -11,7 +11,8 @@ use Rattle.station.proofs.ComesLaws.{comes-as}
 use lib.ListN.{length}
 use mathlib.Core.List.{[], _∷_}
 use Rattle.messages.specs.Table.{groupCount}
-use Rattle.station.proofs.SendLaws.{writable-as, report-writable}
+use Rattle.ends.proofs.SendLaws.{writable-as}
+use Rattle.station.proofs.SendLaws.{report-writable}
 use native.Mathlib.Omega.{arith}
 use mathlib.Core.Path.{_≡_, ap, _∙_}
 use borrow.Author.Needs.{needs}

@@ -3,7 +3,7 @@ use mathlib.Core.Path.{_≡_}
 use native.Mathlib.Omega.{arith}
 use lib.ListN.{length}
 use Rattle.rules.specs.Constants.{recordCount}
-use Rattle.records.proofs.LoopLaws.{length-mapped}
+use Rattle.ends.proofs.ListLaws.{length-mapped}
 use Rattle.station.proofs.TickLaws.{admission-ends, admission-stays}
 use borrow.Author.Needs.{needs}
 use Rattle.station.proofs.ticks.matching.Statement.{statement}

@@ -1,6 +1,6 @@
 -- `words::copies::clear_sums` meets its contract: so many are cleared so far.
 use Prim.Native.Nat.{_-_}
-use Rattle.words.proofs.CopyLaws.{Cleared, cleared-start, cleared-next, cleared-end}
+use Rattle.ends.proofs.CopyLaws.{Cleared, cleared-start, cleared-next, cleared-end}
 use borrow.Author.Needs.{needs}
 use lib.ListN.{length}
 use Rattle.words.proofs.copies.clear_sums.Statement.{statement}

@@ -1,6 +1,6 @@
 -- `words::copies::put_sums` meets its contract: so much is copied so far.
 use Prim.Native.Nat.{_-_}
-use Rattle.words.proofs.CopyLaws.{Copied, copied-start, copied-next, copied-end}
+use Rattle.ends.proofs.CopyLaws.{Copied, copied-start, copied-next, copied-end}
 use borrow.Author.Needs.{needs}
 use lib.ListN.{length}
 use Rattle.words.proofs.copies.put_sums.Statement.{statement}

@@ -1,6 +1,6 @@
 -- `words::copies::sums_at` meets its contract: so many sums are copied, each at most the most.
 use Prim.Native.Nat.{_-_, min}
-use Rattle.messages.specs.Octets.{part}
+use Rattle.octets.specs.Octets.{part}
 use Rattle.messages.specs.Table.{groupCount}
 use Rattle.words.proofs.CopyLaws.{Changed, changed-next, changed-end}
 use Rattle.words.specs.Words.{sumsOf}

@@ -1,6 +1,6 @@
 -- `words::one_record::store` meets its contract: the words and sums put in place are the record put in place.
 use Rattle.messages.specs.Table.{groupCount}
-use Rattle.records.proofs.LoopLaws.{length-mapped}
+use Rattle.ends.proofs.ListLaws.{length-mapped}
 use Rattle.words.proofs.HeadWords.{stored, not-stored}
 use Rattle.words.specs.Words.{stationOf}
 use borrow.Author.Needs.{needs}

@@ -1,0 +1,142 @@
+-- The laws of numbers in runs of octets, each proved once over the length.
+use Prim.Native.Nat.{ℕ, zero, suc, _+_, _-_, _*_, _^_, _/_, _%_, _<_, _≤_}
+use mathlib.Core.Path.{_≡_, refl, sym, ap, ap₂, _∙_, subst}
+use mathlib.Core.List.{List, [], _∷_, _++_, append-assoc, append-nil}
+use native.Mathlib.Omega.{arith}
+use native.Mathlib.Nat.{add-zero, pow-suc, pow-zero, div-lt-iff-lt-mul, div-add-mod'}
+use lib.ListN.{length, getD, take, drop, replicate, set, length-append, length-drop, drop-of-length-le, replicate-append-replicate}
+use lib.Seq.{drop-cons, getD-append-seam, getD-append-add, sets, sets-eq, take-suc, take-all, getD-drop}
+use borrow.Rule.Slice.PartMut.{putMid}
+use Rattle.octets.specs.Octets.{value, bytes, lowValue, lowBytes, part, Octets, splice}
+
+-- ---- first octet most significant
+
+pub length-bytes : (n v : ℕ) → length (bytes n v) ≡ n
+unfolding bytes
+length-bytes zero v = refl
+length-bytes (suc n) v = length-append (bytes n (v / 256)) (v % 256 ∷ []) ∙ omega (arith, length-bytes n (v / 256))
+
+pub value-lt : (s : List ℕ) (at n : ℕ) → Octets s → value s at n < 256 ^ n
+unfolding value
+value-lt s at zero o = rw pow-zero (omega arith)
+value-lt s at (suc n) o = rw pow-suc (omega (arith, value-lt s at n o, o (at + n)))
+
+-- the number in the octets of v, wherever they stand
+pub value-bytes : (n v : ℕ) (pre rest : List ℕ) → v < 256 ^ n → value (pre ++ (bytes n v ++ rest)) (length pre) n ≡ v
+unfolding value bytes
+value-bytes zero v pre rest h = omega (arith, rw pow-zero at h)
+value-bytes (suc n) v pre rest h =
+    let x : ℕ = v % 256 in
+    let h′ : v / 256 < 256 ^ n = div-lt-iff-lt-mul {k = 256} {x = v} {y = 256 ^ n} (omega arith) .1 (rw pow-suc at h) in
+    let e : pre ++ (bytes n (v / 256) ++ (x ∷ []) ++ rest) ≡ pre ++ (bytes n (v / 256) ++ (x ∷ rest)) = rw append-assoc in
+    let front : value (pre ++ (bytes n (v / 256) ++ (x ∷ rest))) (length pre) n ≡ v / 256 = value-bytes n (v / 256) pre (x ∷ rest) h′ in
+    let last : getD (pre ++ (bytes n (v / 256) ++ (x ∷ rest))) (length pre + n) 0 ≡ x =
+    getD-append-add pre (bytes n (v / 256) ++ (x ∷ rest)) n 0
+    ∙ subst (λ (k : ℕ). getD (bytes n (v / 256) ++ (x ∷ rest)) k 0 ≡ x) (add-zero (length (bytes n (v / 256))) ∙ length-bytes n (v / 256)) (getD-append-add (bytes n (v / 256)) (x ∷ rest) 0 0) in
+    ap (λ (l : List ℕ). value l (length pre) n * 256 + getD l (length pre + n) 0) e
+    ∙ ap₂ (λ (a b : ℕ). a * 256 + b) front last
+    ∙ div-add-mod' v 256
+
+-- the octets of the number in n octets are these octets
+pub bytes-value : (n at : ℕ) (s : List ℕ) → Octets s → at + n ≤ length s → bytes n (value s at n) ≡ part s at n
+unfolding value bytes
+bytes-value zero at s o h = refl
+bytes-value (suc n) at s o h =
+    let x : ℕ = getD s (at + n) 0 in
+    let v : ℕ = value s at n in
+    let d : (v * 256 + x) / 256 ≡ v = omega (arith, o (at + n)) in
+    let m : (v * 256 + x) % 256 ≡ x = omega (arith, o (at + n)) in
+    let g : n < length (drop at s) = rw length-drop (omega arith) in
+    ap₂ (λ (a b : ℕ). bytes n a ++ (b ∷ [])) d m
+    ∙ ap₂ (λ (a : List ℕ) (b : ℕ). a ++ (b ∷ [])) (bytes-value n at s o (omega arith)) (sym (getD-drop at s n 0))
+    ∙ sym (take-suc (drop at s) n 0 g)
+
+-- the octets of 0
+pub bytes-zero : (n : ℕ) → bytes n 0 ≡ replicate n 0
+unfolding bytes
+bytes-zero zero = refl
+bytes-zero (suc n) =
+    ap (λ (l : List ℕ). l ++ (0 ∷ [])) (bytes-zero n)
+    ∙ replicate-append-replicate n 1 0
+    ∙ (let e : n + 1 ≡ suc n = omega arith in ap (λ (k : ℕ). replicate k 0) e)
+
+-- ---- low octet first
+
+pub length-low : (n v : ℕ) → length (lowBytes n v) ≡ n
+unfolding lowBytes
+length-low zero v = refl
+length-low (suc n) v = ap suc (length-low n (v / 256))
+
+pub low-lt : (s : List ℕ) (at n : ℕ) → Octets s → lowValue s at n < 256 ^ n
+unfolding lowValue
+low-lt s at zero o = rw pow-zero (omega arith)
+low-lt s at (suc n) o = rw pow-suc (omega (arith, low-lt s (suc at) n o, o at))
+
+pub low-value-bytes : (n v : ℕ) (pre rest : List ℕ) → v < 256 ^ n → lowValue (pre ++ (lowBytes n v ++ rest)) (length pre) n ≡ v
+unfolding lowValue lowBytes
+low-value-bytes zero v pre rest h = omega (arith, rw pow-zero at h)
+low-value-bytes (suc n) v pre rest h =
+    let x : ℕ = v % 256 in
+    let tail : List ℕ = lowBytes n (v / 256) ++ rest in
+    let h′ : v / 256 < 256 ^ n = div-lt-iff-lt-mul {k = 256} {x = v} {y = 256 ^ n} (omega arith) .1 (rw pow-suc at h) in
+    let e : pre ++ (x ∷ tail) ≡ (pre ++ (x ∷ [])) ++ tail = simp append-assoc in
+    let l : length (pre ++ (x ∷ [])) ≡ suc (length pre) = length-append pre (x ∷ []) ∙ omega arith in
+    ap₂ (λ (a b : ℕ). a * 256 + b)
+    (ap₂ (λ (m : List ℕ) (k : ℕ). lowValue m k n) e (sym l) ∙ low-value-bytes n (v / 256) (pre ++ (x ∷ [])) rest h′)
+    (getD-append-seam pre x tail 0)
+    ∙ div-add-mod' v 256
+
+pub low-bytes-value : (n at : ℕ) (s : List ℕ) → Octets s → at + n ≤ length s → lowBytes n (lowValue s at n) ≡ part s at n
+unfolding lowValue lowBytes
+low-bytes-value zero at s o h = refl
+low-bytes-value (suc n) at s o h =
+    let x : ℕ = getD s at 0 in
+    let v : ℕ = lowValue s (suc at) n in
+    let d : (v * 256 + x) / 256 ≡ v = omega (arith, o at) in
+    let m : (v * 256 + x) % 256 ≡ x = omega (arith, o at) in
+    ap₂ (λ (a b : ℕ). b ∷ lowBytes n a) d m
+    ∙ ap (λ (l : List ℕ). x ∷ l) (low-bytes-value n (suc at) s o (omega arith))
+    ∙ ap (λ (l : List ℕ). take (suc n) l) (sym (drop-cons s at 0 (omega arith)))
+
+-- ---- parts and stores
+
+-- the octets behind the first n of a list are octets
+pub octets-drop : (n : ℕ) (s : List ℕ) → Octets s → Octets (drop n s)
+octets-drop n s o i = rw getD-drop (o (n + i))
+
+-- a run of stores after another
+pub sets-append : (a b l : List ℕ) (i : ℕ) → sets l i (a ++ b) ≡ sets (sets l i a) (i + length a) b
+sets-append [] b l i = ap (λ (k : ℕ). sets l k b) (sym (add-zero i))
+sets-append (x ∷ a) b l i = sets-append a b (set l i x) (suc i) ∙ ap (λ (k : ℕ). sets (sets (set l i x) (suc i) a) k b) (omega arith)
+
+-- stores that fit are a splice
+pub sets-splice : (ws l : List ℕ) (at : ℕ) → at + length ws ≤ length l → sets l at ws ≡ splice at ws l
+unfolding splice
+sets-splice ws l at h = sets-eq ws l at h ∙ append-assoc (take at l) ws (drop (at + length ws) l)
+
+-- stores behind the first octet, and in a part that starts anywhere
+sets-behind : (ws l : List ℕ) (x i : ℕ) → sets (x ∷ l) (suc i) ws ≡ x ∷ sets l i ws
+sets-behind [] l x i = refl
+sets-behind (w ∷ ws) l x i = sets-behind ws (set l i w) x (suc i)
+
+pub sets-part : (a : ℕ) (l ws : List ℕ) (i : ℕ) → a ≤ length l → take a l ++ sets (drop a l) i ws ≡ sets l (a + i) ws
+sets-part zero l ws i h = ap (λ (k : ℕ). sets l k ws) (let e : i ≡ 0 + i = omega arith in e)
+sets-part (suc a) [] ws i h = absurd (omega arith)
+sets-part (suc a) (x ∷ l) ws i h =
+    ap (λ (t : List ℕ). x ∷ t) (sets-part a l ws i (omega arith))
+    ∙ sym (sets-behind ws l x (a + i))
+    ∙ ap (λ (k : ℕ). sets (x ∷ l) k ws) (let e : suc (a + i) ≡ suc a + i = omega arith in e)
+
+-- the part of a list from n on, as the code lends it
+pub lent-part : (n : ℕ) (l : List ℕ) → take (length l - n) (drop n l) ≡ drop n l
+lent-part n l = take-all (length l - n) (drop n l) (rw length-drop (omega arith))
+
+-- stores in that part, once it is back in its place
+pub sets-lent : (a : ℕ) (l ws : List ℕ) → a ≤ length l → putMid a (length l - a) l (sets (take (length l - a) (drop a l)) 0 ws) ≡ sets l a ws
+sets-lent a l ws h =
+    let none : drop (length l - a) (drop a l) ≡ [] = drop-of-length-le (drop a l) {i = length l - a} (rw length-drop (omega arith)) in
+    let place : a + 0 ≡ a = omega arith in
+    ap₂ (λ (p q : List ℕ). take a l ++ (sets p 0 ws ++ q)) (lent-part a l) none
+    ∙ ap (λ (p : List ℕ). take a l ++ p) (append-nil (sets (drop a l) 0 ws))
+    ∙ sets-part a l ws 0 h
+    ∙ ap (λ (k : ℕ). sets l k ws) place
