@@ -1,0 +1,14 @@
+pub mod Constants
+pub mod Calls
+pub mod Cars
+pub mod Sending
+pub mod Received
+pub mod Choice
+pub mod Frames
+pub mod Ticks
+pub mod Rules
+pub mod Invariant
+pub mod Answers
+pub mod Demand3
+pub mod Cases
+pub mod Examples

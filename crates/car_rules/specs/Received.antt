@@ -1,0 +1,55 @@
+-- What a frame's octets say to a car: reading's refusals, then 19, or a station's message.
+use Prim.Native.Nat.{ℕ}
+use mathlib.Core.Bool.{Bool, not, _&&_}
+use mathlib.Core.List.{List}
+use lib.Dec.{eqb}
+use Rattle.messages.specs.declared.Nid.{Nid}
+use Rattle.messages.specs.declared.Nmk.{Nmk}
+use Rattle.messages.specs.declared.RunId.{RunId}
+use Rattle.messages.specs.declared.StationAddress.{StationAddress}
+use Rattle.messages.specs.Layout.{Values}
+use Rattle.messages.specs.Table.{Kind, slacParmReq, slacParmCnf, startAttenCharInd, attenCharInd, attenCharRsp, mnbcSoundInd, slacMatchReq, slacMatchCnf, attenProfileInd, payload, Message}
+use Rattle.messages.specs.Reading.{Checked, no, yes, readRules}
+use Rattle.ends.specs.Outcomes.{andThen}
+use Rattle.car_rules.specs.declared.Configuration.{Configuration}
+
+-- PARM.CNF, the report ATTEN_CHAR.IND with its sounds used and its group values, and MATCH.CNF with NID and NMK
+pub data StationMessage : Type 0 where
+  parmCnf : StationMessage
+  report : ℕ → List ℕ → StationMessage
+  matchCnf : Nid → Nmk → StationMessage
+
+-- a station's message, its run, the station that sent it, and the frame's destination
+pub record Received : Type 0 where
+  pub station : StationAddress
+  pub dst : ℕ
+  pub run : RunId
+  pub message : StationMessage
+
+-- a message of run n in a frame from f to d
+abbrev pub fromStation : ℕ → ℕ → ℕ → StationMessage → Checked Received
+fromStation d f n m = yes (record { station = record { 0 = f }; dst = d; run = record { 0 = n }; message = m })
+
+-- by the message: 19 where "only a station receives" it
+abbrev pub receivedAs : (k : Kind) (d f : ℕ) → Values (payload k d f) → Checked Received
+receivedAs slacParmReq d f vs = no 19
+receivedAs slacParmCnf d f vs = fromStation d f (vs .0) parmCnf
+receivedAs startAttenCharInd d f vs = no 19
+receivedAs attenCharInd d f vs = fromStation d f (vs .0) (report (vs .1 .0) (vs .1 .1 .0))
+receivedAs attenCharRsp d f vs = no 19
+receivedAs mnbcSoundInd d f vs = no 19
+receivedAs slacMatchReq d f vs = no 19
+receivedAs slacMatchCnf d f vs = fromStation d f (vs .0) (matchCnf (record { 0 = vs .1 .0 }) (record { 0 = vs .1 .1 .0; 1 = vs .1 .1 .1 .0 }))
+receivedAs attenProfileInd d f vs = no 19
+
+-- of what reading gives
+abbrev pub receivedIn : Checked Message → Checked Received
+receivedIn x = andThen x (λ (m : Message). receivedAs (m .kind) (m .dst) (m .src) (m .values))
+
+-- reading, 19
+unfoldable pub received : List ℕ → Checked Received
+received s = receivedIn (readRules s)
+
+-- what refusal 7 does not concern: "not to us, or from our own address"
+abbrev pub isForUs : Configuration → Received → Bool
+isForUs o x = eqb (x .dst) (o .address .0) && not (eqb (x .station .0) (o .address .0))
