@@ -1,0 +1,114 @@
+// What is decided of a frame before the state is looked at: 16, 15, reading, 19, 7.
+use car_rules::Configuration;
+use car_rules::LEAST_OUTPUT;
+use messages::CarAddress;
+use messages::Message;
+use messages::Nid;
+use messages::Nmk;
+use messages::ReadAnswer;
+use messages::Refusal;
+use messages::RunId;
+use messages::StationAddress;
+ghost use Prim.Native.Nat.{ℕ};
+ghost use mathlib.Core.Path.{_≡_};
+ghost use mathlib.Core.List.{List};
+ghost use Rattle.messages.specs.Answers.{messageOf};
+ghost use Rattle.messages.specs.Reading.{groupsOf, readRules};
+ghost use Rattle.car.specs.Judge.{judgedOf, addressedRule, judgeRule, forUs};
+
+// A station's message: PARM.CNF, a report with its sounds used, whose group values stand in the frame, or MATCH.CNF.
+pub(crate) enum StationMessage {
+    ParmCnf,
+    Report(u8),
+    MatchCnf { nid: Nid, nmk: Nmk },
+}
+
+// A station's message to us, with its run.
+pub(crate) struct Received {
+    pub station: StationAddress,
+    pub run: RunId,
+    pub message: StationMessage,
+}
+
+// A refusal, or a station's message.
+pub(crate) enum Judged {
+    Refused(Refusal),
+    Taken(Received),
+}
+
+// 7, where a frame does not go to us, or comes from us.
+fn for_us(config: Configuration, car: CarAddress, received: Received) -> Judged
+    ensures { λ j. ⌜ j ≡ forUs config car received ⌝ }
+{
+    let us = config.address;
+    let station = received.station;
+    if (car.0 == us.0) & !(station.0 == us.0) {
+        Judged::Taken(received)
+    } else {
+        Judged::Refused(Refusal::NotForUs)
+    }
+}
+
+// By the message: 19 where only a station receives it, then 7.
+fn addressed(config: Configuration, message: Message) -> Judged
+    ensures { λ j. ⌜ ((g : List ℕ) → judgedOf j g ≡ addressedRule config (messageOf message g)) ⌝ }
+{
+    match message {
+        Message::SlacParmCnf { station, car, run } => for_us(
+            config,
+            car,
+            Received {
+                station: station,
+                run: run,
+                message: StationMessage::ParmCnf,
+            },
+        ),
+        Message::AttenCharInd {
+            station,
+            car,
+            run,
+            sounds,
+        } => for_us(
+            config,
+            car,
+            Received {
+                station: station,
+                run: run,
+                message: StationMessage::Report(sounds),
+            },
+        ),
+        Message::SlacMatchCnf {
+            station,
+            car,
+            run,
+            nid,
+            nmk,
+        } => for_us(
+            config,
+            car,
+            Received {
+                station: station,
+                run: run,
+                message: StationMessage::MatchCnf { nid: nid, nmk: nmk },
+            },
+        ),
+        _ => Judged::Refused(Refusal::OnlyForStations),
+    }
+}
+
+// All that needs no state, in its order.
+pub(crate) fn judge(config: Configuration, octets: &[u8], room: usize) -> Judged
+    ensures { λ j. ⌜ judgedOf j (groupsOf (readRules (now (octets .entry)))) ≡ judgeRule config room (now (octets .entry)) ⌝ }
+{
+    if !config.good {
+        return Judged::Refused(Refusal::BadConfiguration);
+    }
+    if room < LEAST_OUTPUT {
+        return Judged::Refused(Refusal::OutputTooShort);
+    }
+    let answer = messages::read(octets);
+    match answer {
+        ReadAnswer::Refused(refusal) => Judged::Refused(refusal),
+        ReadAnswer::Read(message) => addressed(config, message),
+    }
+}
