@@ -1,18 +1,20 @@
 /*
- * Lahzavar: the charging station's side of SLAC matching (ISO 15118-3).
+ * Lahzavar: both ends of SLAC matching (ISO 15118-3), the charging station's and the car's.
  *
- * A driver keeps one struct lahzavar_station for each outlet, configures it, and hands it every event: frames from the
- * modem, clock readings, pilot states, terminate and link up. The answer says which frames to send, and whether the link
- * is established or the matching has failed. Link with liblahzavar.a; docs/INTEGRATION.md is the guide for a board.
+ * A station's driver keeps one struct lahzavar_station for each outlet, configures it, and hands it every event: frames from
+ * the modem, clock readings, pilot states, terminate and link up. A car's driver keeps one struct lahzavar_car, configures
+ * it, starts it, and hands it frames, clock readings, terminate and link up. The answer says which frames to send, and what
+ * to tell the charge controller. Link with liblahzavar.a; docs/INTEGRATION.md is the guide for a board.
  *
  * What a caller owes, and all that it owes:
- * - The station was configured before its first other call, and nothing but these calls writes it.
- * - One call at a time for a station: an interrupt must not call while another call is under way.
+ * - The station or car was configured before its first other call, and nothing but these calls writes it.
+ * - One call at a time for a station or car: an interrupt must not call while another call is under way.
  * - Frame and output are memory of the caller, of at least the lengths given, and overlap neither each other nor the
- *   station. A driver that receives and sends in one buffer lends two parts of it.
+ *   station or car. A driver that receives and sends in one buffer lends two parts of it.
  *
- * Every call comes back, for any octets, any length and any number; NULL stands for no octets, and for a station that was
- * never configured. A refused call changes neither station nor output. No call allocates, blocks, or keeps a pointer.
+ * Every call comes back, for any octets, any length and any number; NULL stands for no octets, and for a station or car that
+ * was never configured. A refused call changes neither station, car nor output. No call allocates, blocks, or keeps a
+ * pointer.
  */
 #ifndef LAHZAVAR_H
 #define LAHZAVAR_H
@@ -26,7 +28,7 @@ extern "C" {
 
 /* The version of this header. */
 #define LAHZAVAR_MAJOR 0
-#define LAHZAVAR_MINOR 2
+#define LAHZAVAR_MINOR 3
 #define LAHZAVAR_PATCH 0
 /* The same as one number, which lahzavar_version() gives of the library. */
 #define LAHZAVAR_VERSION (65536u * LAHZAVAR_MAJOR + 256u * LAHZAVAR_MINOR + LAHZAVAR_PATCH)
@@ -43,6 +45,13 @@ extern "C" {
 #define LAHZAVAR_WORDS (12 + 8 * LAHZAVAR_RECORDS)
 #define LAHZAVAR_SUMS (LAHZAVAR_GROUPS * LAHZAVAR_RECORDS)
 
+/* The most stations whose reports a car keeps. */
+#define LAHZAVAR_STATIONS 10
+/* The least room that a car's start, frame and tick calls ask for: a CM_SLAC_MATCH.REQ. */
+#define LAHZAVAR_CAR_LEAST_OUTPUT 85
+/* The size of a car's array. */
+#define LAHZAVAR_CAR_WORDS (16 + 2 * LAHZAVAR_STATIONS)
+
 /* Why a call was refused; 0 where it was accepted. */
 enum lahzavar_refusal {
     LAHZAVAR_ACCEPTED = 0,
@@ -52,18 +61,23 @@ enum lahzavar_refusal {
     LAHZAVAR_TOO_LONG = 4,           /* longer than its message is written */
     LAHZAVAR_BAD_ADDRESS = 5,        /* source, destination or the profile's car of the wrong kind */
     LAHZAVAR_BAD_OCTET = 6,          /* another octet that is fixed, equal to one before, or limited */
-    LAHZAVAR_NOT_FOR_US = 7,         /* to another station, from another modem, or from ourselves */
-    LAHZAVAR_WRONG_STATE = 8,        /* the station's state takes no such event; a pilot that is none */
+    LAHZAVAR_NOT_FOR_US = 7,         /* to another receiver, from another modem, or from ourselves */
+    LAHZAVAR_WRONG_STATE = 8,        /* the state takes no such event; a pilot that is none */
     LAHZAVAR_ADMISSION_CLOSED = 9,   /* a new car after the end of admission */
     LAHZAVAR_RECORDS_FULL = 10,      /* a new car while every record is held */
-    LAHZAVAR_NO_RECORD = 11,         /* this car holds no record, or another run */
+    LAHZAVAR_NO_RECORD = 11,         /* this car holds no record, or another run; at a car: another run or station */
     LAHZAVAR_WRONG_PHASE = 12,       /* the car's record is in another phase */
     LAHZAVAR_BAD_SOUND_COUNT = 13,   /* a sound count over 9, or heard already */
     LAHZAVAR_TICK_GAP = 14,          /* more than 60,000 ms since the last reading */
-    LAHZAVAR_OUTPUT_TOO_SHORT = 15,  /* less room than LAHZAVAR_LEAST_OUTPUT */
-    LAHZAVAR_BAD_CONFIGURATION = 16, /* the station was badly configured, wiped, or NULL */
-    LAHZAVAR_ONLY_FOR_CARS = 17      /* a message that only a car receives */
+    LAHZAVAR_OUTPUT_TOO_SHORT = 15,  /* less room than LAHZAVAR_LEAST_OUTPUT, or LAHZAVAR_CAR_LEAST_OUTPUT */
+    LAHZAVAR_BAD_CONFIGURATION = 16, /* the station or car was badly configured, wiped, or NULL */
+    LAHZAVAR_ONLY_FOR_CARS = 17,     /* a message that only a car receives */
+    LAHZAVAR_REPORTS_FULL = 18,      /* a report, while those of LAHZAVAR_STATIONS other stations are kept */
+    LAHZAVAR_ONLY_FOR_STATIONS = 19, /* a message that only a station receives */
+    LAHZAVAR_NO_SOUNDS = 20          /* a report of no sounds */
 };
+/* The greatest of these numbers. */
+#define LAHZAVAR_LAST_REFUSAL LAHZAVAR_NO_SOUNDS
 
 /* A refusal as a sentence, for a log; 0 and numbers of a later library have one too. */
 static inline const char *lahzavar_refusal_text(uint32_t refusal)
@@ -84,15 +98,15 @@ static inline const char *lahzavar_refusal_text(uint32_t refusal)
     case LAHZAVAR_BAD_OCTET:
         return "an octet of the payload is not what the standard fixes";
     case LAHZAVAR_NOT_FOR_US:
-        return "the frame is for another station, from another modem, or from ourselves";
+        return "the frame is for another receiver, from another modem, or from ourselves";
     case LAHZAVAR_WRONG_STATE:
-        return "the station's state takes no such event";
+        return "the state takes no such event";
     case LAHZAVAR_ADMISSION_CLOSED:
         return "a new car asks after the end of admission";
     case LAHZAVAR_RECORDS_FULL:
         return "a new car asks while other cars hold every record";
     case LAHZAVAR_NO_RECORD:
-        return "the car holds no record, or one of another run";
+        return "there is no such record, run or chosen station";
     case LAHZAVAR_WRONG_PHASE:
         return "the car's record is in another phase";
     case LAHZAVAR_BAD_SOUND_COUNT:
@@ -105,6 +119,12 @@ static inline const char *lahzavar_refusal_text(uint32_t refusal)
         return "the configuration is bad, or there is none";
     case LAHZAVAR_ONLY_FOR_CARS:
         return "only a car receives this message";
+    case LAHZAVAR_REPORTS_FULL:
+        return "the reports of as many other stations are kept as there is room for";
+    case LAHZAVAR_ONLY_FOR_STATIONS:
+        return "only a station receives this message";
+    case LAHZAVAR_NO_SOUNDS:
+        return "the report tells of no sounds";
     default:
         return "a refusal that this version does not know";
     }
@@ -114,7 +134,12 @@ static inline const char *lahzavar_refusal_text(uint32_t refusal)
 enum lahzavar_indication {
     LAHZAVAR_NO_INDICATION = 0,
     LAHZAVAR_NO_LINK = 1,
-    LAHZAVAR_LINK_ESTABLISHED = 2
+    LAHZAVAR_LINK_ESTABLISHED = 2,
+    /* The car's alone. */
+    LAHZAVAR_FOUND = 3,
+    LAHZAVAR_POTENTIALLY_FOUND = 4,
+    LAHZAVAR_NOT_FOUND = 5,
+    LAHZAVAR_KEY_GIVEN = 6
 };
 
 /* The station's state. */
@@ -123,6 +148,17 @@ enum lahzavar_state_number {
     LAHZAVAR_MATCHING = 1,
     LAHZAVAR_JOINING = 2,
     LAHZAVAR_MATCHED = 3
+};
+
+/* The car's state. */
+enum lahzavar_car_state_number {
+    LAHZAVAR_CAR_IDLE = 0,
+    LAHZAVAR_CAR_ASKING = 1,
+    LAHZAVAR_CAR_CONFIRMED = 2,
+    LAHZAVAR_CAR_SOUNDING = 3,
+    LAHZAVAR_CAR_REQUESTING = 4,
+    LAHZAVAR_CAR_JOINING = 5,
+    LAHZAVAR_CAR_MATCHED = 6
 };
 
 /* The control pilot's state: a car is plugged in at B, C and D. */
@@ -141,6 +177,11 @@ struct lahzavar_station {
     uint16_t private_sums[LAHZAVAR_SUMS];
 };
 
+/* A car, kept by the caller; its fields are the library's own, and hold the NMK once a station has given it. */
+struct lahzavar_car {
+    uint64_t private_words[LAHZAVAR_CAR_WORDS];
+};
+
 /* The answer to an event: a refusal, or how many frames stand in the output, their octets, and an indication. */
 struct lahzavar_answer {
     uint32_t refusal;    /* enum lahzavar_refusal; where it is not 0, the rest is 0 */
@@ -155,6 +196,23 @@ struct lahzavar_heard {
     uint32_t sounds;
 };
 
+/* The answer to the key query: a refusal, or the station that the car joins, its NID and its NMK, as octets in frames. */
+struct lahzavar_key {
+    uint32_t refusal;
+    uint8_t station[6];
+    uint8_t nid[7];
+    uint8_t nmk[16];
+};
+
+/* The same as the library gives it: the first octet of address and NMK is most significant, that of the NID least. */
+struct lahzavar_key_numbers {
+    uint32_t refusal;
+    uint64_t station;
+    uint64_t nid;
+    uint64_t nmk_first;
+    uint64_t nmk_last;
+};
+
 /* That the compiler lays these out as the library does: checked where the language can. */
 #if defined(__cplusplus) && __cplusplus >= 201103L
 #define LAHZAVAR_CHECK(what, says) static_assert(what, says);
@@ -166,6 +224,9 @@ struct lahzavar_heard {
 #ifdef LAHZAVAR_CHECK
 LAHZAVAR_CHECK(sizeof(struct lahzavar_answer) == 16, "an answer is four numbers of 32 bits")
 LAHZAVAR_CHECK(sizeof(struct lahzavar_heard) == 8, "a query's answer is two numbers of 32 bits")
+LAHZAVAR_CHECK(sizeof(struct lahzavar_key_numbers) == 40, "a key is five numbers, the first of 32 bits")
+LAHZAVAR_CHECK(sizeof(struct lahzavar_car) == 8 * LAHZAVAR_CAR_WORDS, "a car's words stand back to back")
+LAHZAVAR_CHECK(LAHZAVAR_ALIGNMENT(struct lahzavar_car) >= LAHZAVAR_ALIGNMENT(uint64_t), "a car is aligned as its words")
 LAHZAVAR_CHECK(offsetof(struct lahzavar_station, private_sums) == 8 * LAHZAVAR_WORDS, "a station's words stand back to back")
 LAHZAVAR_CHECK(sizeof(struct lahzavar_station) >= 8 * LAHZAVAR_WORDS + 2 * LAHZAVAR_SUMS,
                "a station holds its words and sums")
@@ -176,8 +237,8 @@ LAHZAVAR_CHECK(LAHZAVAR_ALIGNMENT(struct lahzavar_station) >= LAHZAVAR_ALIGNMENT
 #endif
 
 /*
- * What the library exports. Use the functions below instead, which take a struct lahzavar_station and allow NULL for no
- * octets; a pointer passed here is never NULL.
+ * What the library exports. Use the functions below instead, which take a struct lahzavar_station or lahzavar_car and allow
+ * NULL for no octets; a pointer passed here is never NULL.
  */
 struct lahzavar_answer lahzavar_configure(uint64_t *words, uint16_t *sums, uint64_t address, uint64_t modem, uint64_t nid,
                                           uint64_t nmk_first, uint64_t nmk_last);
@@ -195,12 +256,25 @@ uint32_t lahzavar_version(void);
 uint32_t lahzavar_words(void);
 uint32_t lahzavar_sums(void);
 uint32_t lahzavar_least_output(void);
+struct lahzavar_answer lahzavar_configure_car(uint64_t *words, uint64_t address, uint32_t reference);
+struct lahzavar_answer lahzavar_start_car(uint64_t *words, uint64_t run, uint64_t random_first, uint64_t random_last,
+                                          uint32_t reading, uint8_t *out, size_t room);
+struct lahzavar_answer lahzavar_frame_car(uint64_t *words, const uint8_t *octets, size_t length, uint8_t *out, size_t room);
+struct lahzavar_answer lahzavar_tick_car(uint64_t *words, uint32_t reading, uint8_t *out, size_t room);
+struct lahzavar_answer lahzavar_link_up_car(uint64_t *words);
+struct lahzavar_answer lahzavar_terminate_car(uint64_t *words);
+struct lahzavar_key_numbers lahzavar_key_of_car(const uint64_t *words);
+uint32_t lahzavar_state_of_car(const uint64_t *words);
+void lahzavar_wipe_car(uint64_t *words);
+uint32_t lahzavar_words_of_car(void);
+uint32_t lahzavar_least_output_of_car(void);
 
-/* 1 where the library is the one that this header describes: ask once, before the first station. */
+/* 1 where the library is the one that this header describes: ask once, before the first station or car. */
 static inline int lahzavar_library_fits(void)
 {
     return lahzavar_version() == LAHZAVAR_VERSION && lahzavar_words() == LAHZAVAR_WORDS &&
-           lahzavar_sums() == LAHZAVAR_SUMS && lahzavar_least_output() == LAHZAVAR_LEAST_OUTPUT;
+           lahzavar_sums() == LAHZAVAR_SUMS && lahzavar_least_output() == LAHZAVAR_LEAST_OUTPUT &&
+           lahzavar_words_of_car() == LAHZAVAR_CAR_WORDS && lahzavar_least_output_of_car() == LAHZAVAR_CAR_LEAST_OUTPUT;
 }
 
 /* The number that so many octets stand for, at most eight, the first one most significant; 0 for NULL. */
@@ -231,7 +305,7 @@ static inline uint64_t lahzavar_nid(const uint8_t octets[7])
     return number;
 }
 
-/* The answer of a station that is NULL. */
+/* The answer of a station or car that is NULL. */
 static inline struct lahzavar_answer lahzavar_no_station(void)
 {
     struct lahzavar_answer answer = {LAHZAVAR_BAD_CONFIGURATION, LAHZAVAR_NO_INDICATION, 0, 0};
@@ -335,6 +409,108 @@ static inline uint32_t lahzavar_station_records_held(const struct lahzavar_stati
 static inline size_t lahzavar_frame_octets(struct lahzavar_answer answer)
 {
     return answer.frames == 0 ? 0 : answer.octets / answer.frames;
+}
+
+/* Wipes a car, its key too: it answers LAHZAVAR_BAD_CONFIGURATION to everything until it is configured again. */
+static inline void lahzavar_car_wipe(struct lahzavar_car *car)
+{
+    if (car != NULL) {
+        lahzavar_wipe_car(car->private_words);
+    }
+}
+
+/*
+ * Configures a car: Idle, no run, no reports, clock reading 0. The reference is the attenuation that the car takes as its
+ * zero, in dB: -50 dBm/Hz less the car's own level at its inlet, or 0 to take reports as they are. Refused with
+ * LAHZAVAR_BAD_CONFIGURATION unless the address is unicast and the reference at most 255; the car then answers that to
+ * everything.
+ */
+static inline struct lahzavar_answer lahzavar_car_configure(struct lahzavar_car *car, uint64_t address, uint32_t reference)
+{
+    return car == NULL ? lahzavar_no_station() : lahzavar_configure_car(car->private_words, address, reference);
+}
+
+/*
+ * Starts a matching in Idle, with a new RunID and random octets at each start; the answer's frame is CM_SLAC_PARM.REQ. Without
+ * RunID or random octets (NULL) it is refused with LAHZAVAR_BAD_CONFIGURATION.
+ */
+static inline struct lahzavar_answer lahzavar_car_start(struct lahzavar_car *car, const uint8_t run[8],
+                                                        const uint8_t random[16], uint32_t reading, uint8_t *out,
+                                                        size_t room)
+{
+    uint8_t no_room = 0;
+    if (car == NULL || run == NULL || random == NULL) {
+        return lahzavar_no_station();
+    }
+    return lahzavar_start_car(car->private_words, lahzavar_number(run, 8), lahzavar_number(random, 8),
+                              lahzavar_number(random + 8, 8), reading, out != NULL ? out : &no_room, out != NULL ? room : 0);
+}
+
+/* A frame from the modem, from its destination address on and without its check sequence; NULL stands for no octets. */
+static inline struct lahzavar_answer lahzavar_car_frame(struct lahzavar_car *car, const uint8_t *octets, size_t length,
+                                                        uint8_t *out, size_t room)
+{
+    static const uint8_t no_octets = 0;
+    uint8_t no_room = 0;
+    if (car == NULL) {
+        return lahzavar_no_station();
+    }
+    return lahzavar_frame_car(car->private_words, octets != NULL ? octets : &no_octets, octets != NULL ? length : 0,
+                              out != NULL ? out : &no_room, out != NULL ? room : 0);
+}
+
+/*
+ * A reading of a free-running millisecond clock that wraps at 2^32: every 5 ms or less from the start until the key is given,
+ * and every 10 ms or so until the link is up.
+ */
+static inline struct lahzavar_answer lahzavar_car_tick(struct lahzavar_car *car, uint32_t reading, uint8_t *out, size_t room)
+{
+    uint8_t no_room = 0;
+    if (car == NULL) {
+        return lahzavar_no_station();
+    }
+    return lahzavar_tick_car(car->private_words, reading, out != NULL ? out : &no_room, out != NULL ? room : 0);
+}
+
+/* The modem has a link in the station's network. */
+static inline struct lahzavar_answer lahzavar_car_link_up(struct lahzavar_car *car)
+{
+    return car == NULL ? lahzavar_no_station() : lahzavar_link_up_car(car->private_words);
+}
+
+/* Ends the matching or the link; a new matching begins with the next start. */
+static inline struct lahzavar_answer lahzavar_car_terminate(struct lahzavar_car *car)
+{
+    return car == NULL ? lahzavar_no_station() : lahzavar_terminate_car(car->private_words);
+}
+
+/* The station that the car joins or has joined, its NID and its NMK; else LAHZAVAR_WRONG_STATE, and zeros. */
+static inline struct lahzavar_key lahzavar_car_key(const struct lahzavar_car *car)
+{
+    struct lahzavar_key_numbers numbers = {LAHZAVAR_BAD_CONFIGURATION, 0, 0, 0, 0};
+    struct lahzavar_key key;
+    int at;
+    if (car != NULL) {
+        numbers = lahzavar_key_of_car(car->private_words);
+    }
+    key.refusal = numbers.refusal;
+    for (at = 0; at < 6; at++) {
+        key.station[at] = (uint8_t)(numbers.station >> (40 - 8 * at) & 0xFF);
+    }
+    for (at = 0; at < 7; at++) {
+        key.nid[at] = (uint8_t)(numbers.nid >> 8 * at & 0xFF);
+    }
+    for (at = 0; at < 8; at++) {
+        key.nmk[at] = (uint8_t)(numbers.nmk_first >> (56 - 8 * at) & 0xFF);
+        key.nmk[8 + at] = (uint8_t)(numbers.nmk_last >> (56 - 8 * at) & 0xFF);
+    }
+    return key;
+}
+
+/* The state, one of enum lahzavar_car_state_number; LAHZAVAR_CAR_IDLE for NULL. */
+static inline uint32_t lahzavar_car_state(const struct lahzavar_car *car)
+{
+    return car == NULL ? (uint32_t)LAHZAVAR_CAR_IDLE : lahzavar_state_of_car(car->private_words);
 }
 
 #ifdef __cplusplus

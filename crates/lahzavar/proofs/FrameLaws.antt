@@ -10,7 +10,7 @@ use Rattle.messages.specs.declared.CarAddress.{CarAddress}
 use Rattle.messages.specs.declared.Refusal.{Refusal}
 use Rattle.messages.specs.declared.RunId.{RunId}
 use Rattle.messages.specs.Answers.{numberOf}
-use Rattle.messages.specs.Octets.{splice}
+use Rattle.octets.specs.Octets.{splice}
 use Rattle.messages.specs.Reading.{Checked, no, yes, groupsOf, readRules}
 use Rattle.rules.specs.declared.Configuration.{Configuration}
 use Rattle.ends.specs.declared.Indication.the-variants.{Nothing}

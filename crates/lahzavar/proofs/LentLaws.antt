@@ -9,7 +9,7 @@ use Rattle.messages.specs.declared.ModemAddress.{ModemAddress}
 use Rattle.messages.specs.declared.Nid.{Nid}
 use Rattle.messages.specs.declared.Nmk.{Nmk}
 use Rattle.messages.specs.declared.StationAddress.{StationAddress}
-use Rattle.messages.specs.Octets.{splice}
+use Rattle.octets.specs.Octets.{splice}
 use Rattle.messages.specs.Reading.{Checked, no, yes, check}
 use Rattle.rules.specs.declared.Configured.{Configured}
 use Rattle.rules.specs.declared.Pilot.{Pilot}
@@ -36,18 +36,23 @@ refused-by : (o : Outcome) → (answered o .refusal ≡ 0 → ⊥) → (n : ℕ)
 refused-by (no n) h = (n, refl)
 refused-by (yes x) h = absurd (h refl)
 
+-- what is stored where the answer tells no refusal, and unchanged where it tells one, is what the rules give
+pub settled-means : {S : Type 0} (o : Outcome) (r : Answered) (was is left next : S) → r ≡ answered o → (r .refusal ≡ 0 → is ≡ left) → ((r .refusal ≡ 0 → ⊥) → is ≡ was) → left ≡ next → ((n : ℕ) → o ≡ no n → next ≡ was)
+    → is ≡ next
+settled-means o r was is left next said stored kept e same = split (eqb (r .refusal) 0)
+    (λ z. stored (eqb-true (r .refusal) 0 z) ∙ e)
+    (λ z.
+    let f : r .refusal ≡ 0 → ⊥ = eqb-false (r .refusal) 0 z in
+    let no-call = refused-by o (λ k. f (ap (λ (y : Answered). y .refusal) said ∙ k)) in
+    kept f ∙ sym (same (no-call .0) (no-call .1)))
+
 module _ (x : Call) (w s entry exit v t : List ℕ) (r : Answered) where
   -- by the station of the words
   settled : (k : Stepped) → Answers (stationOf w s) x entry exit k → Settles k w s v t r → Lent x w s entry exit v t r
   settled k a q =
       let said : r ≡ answered (outcome (stationOf w s) x) = q .answer ∙ ap saidOf (a .answer) in
       record {
-        station = split (eqb (r .refusal) 0)
-            (λ z. q .stored (eqb-true (r .refusal) 0 z) ∙ a .station)
-            (λ z.
-            let f : r .refusal ≡ 0 → ⊥ = eqb-false (r .refusal) 0 z in
-            let no-call = refused-by (outcome (stationOf w s) x) (λ e. f (ap (λ (y : Answered). y .refusal) said ∙ e)) in
-            ap₂ stationOf (q .kept f .0) (q .kept f .1) ∙ sym (refused-station (stationOf w s) x (no-call .0) (no-call .1)));
+        station = settled-means (outcome (stationOf w s) x) r (stationOf w s) (stationOf v t) (k .station) _ said (q .stored) (λ f. ap₂ stationOf (q .kept f .0) (q .kept f .1)) (a .station) (refused-station (stationOf w s) x);
         answer = said;
         octets = a .octets;
         kept = q .kept;

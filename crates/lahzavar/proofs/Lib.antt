@@ -1,3 +1,4 @@
 pub mod LentLaws
 pub mod OctetsFit
 pub mod FrameLaws
+pub mod CarLaws

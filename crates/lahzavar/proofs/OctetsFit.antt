@@ -9,12 +9,12 @@ use lib.ListN.{length, length-append, length-map, length-replicate}
 use Rattle.messages.specs.declared.CarAddress.{CarAddress}
 use Rattle.messages.specs.declared.RunId.{RunId}
 use Rattle.messages.specs.Layout.{Field, is, number, low, octets, reserved, Values, size, encode}
-use Rattle.messages.specs.Octets.{bytes, lowBytes}
+use Rattle.octets.specs.Octets.{bytes, lowBytes}
 use Rattle.messages.specs.Reading.{Checked, no, yes}
 use Rattle.messages.specs.Table.{Message, attenCharInd, groupCount, typeOf, head, payload, filledSize, writtenSize}
 use Rattle.messages.specs.Writing as writing
 use Rattle.messages.specs.Writing.{headOctets, payloadOctets, padding}
-use Rattle.messages.proofs.OctetLaws.{length-bytes, length-low}
+use Rattle.octets.proofs.OctetLaws.{length-bytes, length-low}
 use Rattle.rules.specs.declared.Configuration.{Configuration}
 use Rattle.rules.specs.declared.Phase.{Phase}
 use Rattle.rules.specs.declared.Phase.the-variants.{Asked, Sounding, Reported, Awaiting}

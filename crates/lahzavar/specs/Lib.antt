@@ -2,3 +2,4 @@ pub mod Answers
 pub mod Lent
 pub mod Storing
 pub mod Frames
+pub mod Car

@@ -14,7 +14,8 @@ use Rattle.rules.specs.declared.Record.{Record}
 use Rattle.rules.specs.Records.{owned}
 use Rattle.rules.specs.Replies.{parmCnf, messageTo}
 use Rattle.rules.specs.Invariant.{GoodRecord}
-use Rattle.station.proofs.SendLaws.{writable-as, parm-cnf-writable}
+use Rattle.ends.proofs.SendLaws.{writable-as}
+use Rattle.station.proofs.SendLaws.{parm-cnf-writable}
 use Rattle.station.proofs.KeptLaws.{fresh-good}
 use Rattle.lahzavar.proofs.FrameLaws.{comes-as, config-here}
 use mathlib.Core.Path.{sym, ap, ap₂, _∙_, subst}

@@ -17,7 +17,8 @@ use Rattle.rules.specs.Invariant.{GoodRecord}
 use Rattle.rules.specs.Records.{owned}
 use Rattle.rules.specs.Replies.{reportOf, messageTo}
 use Rattle.station.proofs.OwnLaws.{settled-report}
-use Rattle.station.proofs.SendLaws.{writable-as, report-writable}
+use Rattle.ends.proofs.SendLaws.{writable-as}
+use Rattle.station.proofs.SendLaws.{report-writable}
 use Rattle.lahzavar.proofs.FrameLaws.{comes-as, config-here}
 use native.Mathlib.Omega.{arith}
 use mathlib.Core.Path.{_≡_, sym, ap, ap₂, _∙_, subst}
