@@ -1,82 +1,72 @@
--- Which event the octets are, and what the head says.
-use Prim.Native.Nat.{ℕ, _+_, _-_, _<_, _≤_}
-use mathlib.Core.Path.{_≡_, sym, ap, ap₂, _∙_}
-use mathlib.Core.Bool.{Bool, true, false, cond, _&&_}
+-- Which event the octets are, at either end, and what starting gives.
+use Prim.Native.Nat.{ℕ, _+_, _-_, _≤_}
+use mathlib.Core.Path.{_≡_, refl, sym, ap, _∙_}
+use mathlib.Core.Bool.{Bool, true, false, cond, not, _&&_}
 use mathlib.Core.List.{List}
-use mathlib.Core.Option.{none, some}
+use mathlib.Core.Option.{Option, none}
 use native.Mathlib.Omega.{arith}
-use borrow.Author.Tests.{leb-true, eqb-true, le-leb, lt-leb, ne-eqb}
+use borrow.Author.Tests.{leb-true, eqb-true, not-true, not-false}
 use lib.Dec.{leb}
-use lib.ListN.{length, take, drop}
-use Rattle.messages.specs.Octets.{value, lowValue}
-use Rattle.messages.proofs.OctetLaws.{lent-part}
+use lib.ListN.{length, getD, take, drop}
+use Rattle.octets.proofs.OctetLaws.{lent-part}
+use Rattle.messages.specs.Reading.{Checked, no, yes}
 use Rattle.messages.proofs.LayoutLaws.{and-left, and-right}
-use Rattle.rules.specs.declared.Configured.{Configured}
-use Rattle.rules.specs.Rules.{configuring}
-use Rattle.ends.specs.Answers.{answerOf}
-use Rattle.rules.specs.Answers.{Configures}
-use Rattle.script.specs.Layout.{addressIn, modemIn, nidIn, nmkIn, Event, given, eventOctets, mostOctets, kindIn, readingIn, roomIn, lengthIn, ofKind, isSized, eventIn}
-use Rattle.script.specs.Replies.{number, refusalNumber}
-use Rattle.script.specs.Promises.{longestReply, carriedOut, Starts}
-use Rattle.script.proofs.ReplyLaws.{refusal-told}
+use Rattle.ends.specs.Answers.{Summary, summary}
+use Rattle.ends.specs.Outcomes.{Outcome}
+use Rattle.script.specs.Events.{eventOctets, mostOctets, kindIn, readingIn, roomIn, lengthIn, isSized, eventIn}
+use Rattle.script.specs.Replies.{number, longestReply, refusalNumber}
+use Rattle.script.specs.Ends.{StartsAs, carriedOut}
+use Rattle.script.specs.Private.{RoomReady}
 
--- ---- events
+-- ---- the octets of an event
 
--- an event whose octets are as its kind asks, and one whose octets are not
-pub is-given : (b : Bool) (x : Event) → b ≡ true → given b x ≡ some x
-is-given b x e = ap (λ (t : Bool). given t x) e
+-- two tests in one
+both : {A : Type 0} (b c : Bool) (x y : A) → cond b (cond c x y) y ≡ cond (b && c) x y
+both true c x y = refl
+both false c x y = refl
 
-pub not-given : (b : Bool) (x : Event) → b ≡ false → given b x ≡ none
-not-given b x e = ap (λ (t : Bool). given t x) e
+-- the event of e's kind, with its reading and room and the octets s
+abbrev pub ofKind : {A : Type 0} → (ℕ → ℕ → List ℕ → List (Option A)) → List ℕ → List ℕ → Option A
+ofKind kinds e s = getD (kinds (readingIn e) (roomIn e) s) (kindIn e) none
 
--- a kind that is none of 0 to 5
-pub no-kind : (k t room : ℕ) (s : List ℕ) → (k ≡ 0 → ⊥) → (k ≡ 1 → ⊥) → (k ≡ 2 → ⊥) → (k ≡ 3 → ⊥) → (k ≡ 4 → ⊥) → (k ≡ 5 → ⊥) → ofKind k t room s ≡ none
-unfolding ofKind
-no-kind k t room s h0 h1 h2 h3 h4 h5 = simp (ne-eqb k 0 h0, ne-eqb k 1 h1, ne-eqb k 2 h2, ne-eqb k 3 h3, ne-eqb k 4 h4, ne-eqb k 5 h5)
+-- an event e and an output out, as the code tests them
+module _ (e out : List ℕ) {b : Bool} (s : b ≡ isSized e) where
+  by-test : {A : Type 0} (kinds : ℕ → ℕ → List ℕ → List (Option A)) (c : Bool) → leb longestReply (length out) && b ≡ c → carriedOut kinds e (length out) ≡ cond c (ofKind kinds e (drop eventOctets e)) none
+  unfolding eventIn
+  by-test kinds c g =
+      both (leb longestReply (length out)) (isSized e) (ofKind kinds e (drop eventOctets e)) none
+      ∙ ap (λ (d : Bool). cond d (ofKind kinds e (drop eventOctets e)) none) (ap (λ (d : Bool). leb longestReply (length out) && d) (sym s) ∙ g)
 
-module _ (e : List ℕ) (g : isSized e ≡ true) where
-  -- an event has its first octets
-  pub sized-length : eventOctets ≤ length e
-  sized-length = omega (arith, eqb-true (length e) (eventOctets + lengthIn e) (and-right (leb (roomIn e) mostOctets && leb (lengthIn e) mostOctets) _ g))
+  -- none is carried out
+  pub not-carried : {A : Type 0} (kinds : ℕ → ℕ → List ℕ → List (Option A)) → not (leb longestReply (length out) && b) ≡ true → carriedOut kinds e (length out) ≡ none
+  not-carried kinds g = by-test kinds false (not-true _ g)
 
-  -- its room is at most 4,096
-  pub sized-room : roomIn e ≤ mostOctets
-  sized-room = leb-true (roomIn e) mostOctets (and-left (leb (roomIn e) mostOctets) _ (and-left (leb (roomIn e) mostOctets && leb (lengthIn e) mostOctets) _ g))
+  -- one is
+  module _ (g : not (leb longestReply (length out) && b) ≡ false) where
+    pub carried : {A : Type 0} (kinds : ℕ → ℕ → List ℕ → List (Option A)) → carriedOut kinds e (length out) ≡ ofKind kinds e (take (length e - eventOctets) (drop eventOctets e))
+    carried kinds = by-test kinds true (not-false _ g) ∙ ap (ofKind kinds e) (sym (lent-part eventOctets e))
 
--- an output that is too short
-pub carried-short : (e : List ℕ) (n : ℕ) → n < longestReply → carriedOut e n ≡ none
-carried-short e n h = ap (λ (b : Bool). cond b (eventIn e) none) (lt-leb longestReply n h)
+    sized : isSized e ≡ true
+    sized = sym s ∙ and-right (leb longestReply (length out)) b (not-false _ g)
 
--- an event by its kind
-sized-event : (e : List ℕ) (n : ℕ) (b : Bool) → longestReply ≤ n → isSized e ≡ b → carriedOut e n ≡ cond b (ofKind (kindIn e) (readingIn e) (roomIn e) (drop eventOctets e)) none
-unfolding eventIn
-sized-event e n b h g =
-    ap (λ (c : Bool). cond c (eventIn e) none) (le-leb longestReply n h)
-    ∙ ap (λ (c : Bool). cond c (ofKind (kindIn e) (readingIn e) (roomIn e) (drop eventOctets e)) none) g
+    -- it has its first octets
+    pub carried-length : eventOctets ≤ length e
+    carried-length = omega (arith, eqb-true (length e) (eventOctets + lengthIn e) (and-right (leb (roomIn e) mostOctets && leb (lengthIn e) mostOctets) _ sized))
 
-pub carried-sized : (e : List ℕ) (n k t room : ℕ) → longestReply ≤ n → isSized e ≡ true → k ≡ kindIn e → t ≡ readingIn e → room ≡ roomIn e
-    → carriedOut e n ≡ ofKind k t room (take (length e - eventOctets) (drop eventOctets e))
-carried-sized e n k t room h g ek et er =
-    sized-event e n true h g
-    ∙ ap₂ (λ (i j : ℕ). ofKind i j (roomIn e) (drop eventOctets e)) (sym ek) (sym et)
-    ∙ ap₂ (λ (j : ℕ) (s : List ℕ). ofKind k t j s) (sym er) (sym (lent-part eventOctets e))
-
--- octets that are too many or too few
-pub carried-unsized : (e : List ℕ) (n : ℕ) → longestReply ≤ n → isSized e ≡ false → carriedOut e n ≡ none
-carried-unsized e n h g = sized-event e n false h g
+    -- its room is at most 4,096, and the output long enough
+    pub carried-ready : {K : Type 0} → K → RoomReady K (roomIn e) out
+    carried-ready k = record {
+      ready = record { kept = k; output = leb-true longestReply (length out) (and-left (leb longestReply (length out)) b (not-false _ g)) };
+      room = leb-true (roomIn e) mostOctets (and-left (leb (roomIn e) mostOctets) _ (and-left (leb (roomIn e) mostOctets && leb (lengthIn e) mostOctets) _ sized));
+    }
 
 -- ---- the head
 
--- the configuration by the numbers that the head holds
-pub configured-as : (h : List ℕ) (a m n k l : ℕ) (r : Configured) → a ≡ value h 0 6 → m ≡ value h 6 6 → n ≡ lowValue h 12 7 → k ≡ value h 19 8 → l ≡ value h 27 8
-    → Configures (record { 0 = a }) (record { 0 = m }) (record { 0 = n }) (record { 0 = k; 1 = l }) r → Configures (addressIn h) (modemIn h) (nidIn h) (nmkIn h) r
-configured-as h a m n k l r ea em en ek el c = rw (← ea, ← em, ← en, ← ek, ← el) c
+-- the refusal that an answer tells
+refusal-told : (y : Outcome) → refusalNumber (summary y) ≡ refusalNumber y
+refusal-told (no n) = refl
+refusal-told (yes x) = refl
 
 -- what starting gives, from what configuring gives
-pub started : (h : List ℕ) (r : Configured) (n : ℕ) (octets : List ℕ) → Configures (addressIn h) (modemIn h) (nidIn h) (nmkIn h) r → n ≡ refusalNumber (answerOf (r .answer)) → octets ≡ number n
-    → Starts h (record { station = r .station; answer = octets })
-started h r n octets c e q = record {
-  station = c .station;
-  answer = q ∙ ap number (e ∙ ap refusalNumber (c .answer) ∙ refusal-told (configuring (addressIn h) (modemIn h) (nidIn h)));
-  kept = c .kept;
-}
+pub started : {S : Type 0} {Kept : S → Type 0} {first s : S} {y : Outcome} {w : Checked Summary} {n : ℕ} {octets : List ℕ} → s ≡ first → w ≡ summary y → Kept s → n ≡ refusalNumber w → octets ≡ number n → StartsAs Kept first y s octets
+started {y = y} e w k m q = record { left = e; answer = q ∙ ap number (m ∙ ap refusalNumber w ∙ refusal-told y); kept = k }

@@ -1,3 +1,4 @@
 pub mod OutputLaws
 pub mod ReplyLaws
+pub mod CallLaws
 pub mod EventLaws

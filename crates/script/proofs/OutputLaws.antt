@@ -7,10 +7,9 @@ use native.Mathlib.Nat.{zero-add}
 use lib.ListN.{length, take, drop, length-append, length-drop, take-append-drop}
 use lib.Seq.{sets, drop-at, drop-drop, length-take-le, drop-append-le}
 use borrow.Rule.Slice.PartMut.{putMid}
-use Rattle.messages.specs.Octets.{lowBytes, splice}
-use Rattle.messages.proofs.OctetLaws.{sets-append, sets-splice}
-use Rattle.script.specs.Replies.{number, replyHead}
-use Rattle.script.specs.Promises.{replyOctets}
+use Rattle.octets.specs.Octets.{lowBytes, splice}
+use Rattle.octets.proofs.OctetLaws.{sets-append, sets-splice}
+use Rattle.script.specs.Replies.{number, replyOctets, replyHead}
 
 -- a reply's first octets are three numbers
 pub length-head : (a b k : ℕ) → length (replyHead a b k) ≡ replyOctets

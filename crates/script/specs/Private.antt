@@ -3,29 +3,31 @@ use Prim.Native.Nat.{ℕ, _+_, _≤_}
 use mathlib.Core.Path.{_≡_}
 use mathlib.Core.List.{List}
 use lib.ListN.{length}
-use Rattle.messages.specs.Octets.{splice}
+use Rattle.octets.specs.Octets.{splice}
 use Rattle.messages.specs.Reading.{Checked, no, yes}
-use Rattle.rules.specs.declared.Station.{Station}
 use Rattle.ends.specs.Answers.{Summary, indicationNumber}
-use Rattle.rules.specs.Invariant.{Invariant}
-use Rattle.script.specs.declared.Happened.{Happened}
-use Rattle.script.specs.Layout.{mostOctets}
-use Rattle.script.specs.Replies.{replyHead}
-use Rattle.script.specs.Promises.{replyOctets, longestReply}
+use Rattle.script.specs.declared.events.EventHead.{EventHead}
+use Rattle.script.specs.Events.{mostOctets, kindIn, readingIn, roomIn}
+use Rattle.script.specs.Replies.{replyOctets, longestReply, replyHead}
 
--- no event: the station as it was, and no reply
-abbrev pub nothingAs : Station → Happened
-nothingAs s = record { station = s; octets = 0 }
+-- an event's kind, reading and room
+abbrev pub eventHead : List ℕ → EventHead
+eventHead e = record { kind = kindIn e; reading = readingIn e; room = roomIn e }
 
--- a station, and an output that the longest reply fits
-pub record Ready (s : Station) (out : List ℕ) : Type 0 where
-  pub kept : Invariant s
+-- what holds of a station or a car, and an output that the longest reply fits
+pub record Ready (Kept : Type 0) (out : List ℕ) : Type 0 where
+  pub kept : Kept
   pub output : longestReply ≤ length out
 
 -- the same, and a room of which no more is lent than there is
-pub record RoomReady (s : Station) (n : ℕ) (out : List ℕ) : Type 0 where
-  pub ready : Ready s out
+pub record RoomReady (Kept : Type 0) (n : ℕ) (out : List ℕ) : Type 0 where
+  pub ready : Ready Kept out
   pub room : n ≤ mostOctets
+
+-- no event: s stays as it was, and there is no reply
+pub record Stays {S : Type 0} (s t : S) (n : ℕ) : Type 0 where
+  pub left : t ≡ s
+  pub octets : n ≡ 0
 
 -- the first octets of the reply to an answer
 abbrev pub headOf : Checked Summary → List ℕ

@@ -1,15 +1,25 @@
--- The replies of the bench script, in octets.
-use Prim.Native.Nat.{ℕ}
+-- The replies of both scripts, in octets.
+use Prim.Native.Nat.{ℕ, _+_}
 use mathlib.Core.List.{List, [], _++_}
 use lib.ListN.{length}
-use Rattle.messages.specs.Octets.{lowBytes}
+use Rattle.octets.specs.Octets.{bytes, lowBytes}
+use Rattle.car_rules.specs.declared.Key.{Key}
 use Rattle.messages.specs.Reading.{Checked, no, yes}
 use Rattle.ends.specs.Outcomes.{Outcome, joined}
 use Rattle.ends.specs.Answers.{indicationNumber}
+use Rattle.script.specs.Events.{mostOctets}
 
 -- a number: four octets, low octet first
 abbrev pub number : ℕ → List ℕ
 number v = lowBytes 4 v
+
+-- how many octets stand in front of a reply's own: three numbers
+abbrev pub replyOctets : ℕ
+replyOctets = 12
+
+-- how many octets the longest reply takes
+abbrev pub longestReply : ℕ
+longestReply = replyOctets + mostOctets
 
 -- refusal or 0, indication and length
 unfoldable pub replyHead : ℕ → ℕ → ℕ → List ℕ
@@ -24,12 +34,16 @@ abbrev pub callReply : Outcome → List ℕ
 callReply (no n) = replyWith n 0 []
 callReply (yes x) = replyWith 0 (indicationNumber (x .indication)) (joined (x .frames))
 
--- the reply to the service query: one number
-abbrev pub queryReply : Checked ℕ → List ℕ
-queryReply (no n) = replyWith n 0 []
-queryReply (yes n) = replyWith 0 0 (number n)
+-- what a key query's reply holds: the station, its NID, low octet first, and its NMK
+abbrev pub keyOctets : Key → List ℕ
+keyOctets k = bytes 6 (k .station .0) ++ (lowBytes 7 (k .nid .0) ++ (bytes 8 (k .nmk .0) ++ bytes 8 (k .nmk .1)))
 
 module _ {A : Type 0} where
+  -- the reply to a query: the octets of its answer
+  abbrev pub queryReply : (A → List ℕ) → Checked A → List ℕ
+  queryReply f (no n) = replyWith n 0 []
+  queryReply f (yes x) = replyWith 0 0 (f x)
+
   -- "refusal or 0"
   abbrev pub refusalNumber : Checked A → ℕ
   refusalNumber (no n) = n

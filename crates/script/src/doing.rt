@@ -1,24 +1,26 @@
 // Carrying an event out in an output that the longest reply fits; octets that are not as the event's kind asks do nothing.
 use crate::Happened;
 use crate::REPLY_OCTETS;
-use crate::numbers;
+use crate::events::EventHead;
 use crate::replies;
 use messages::CarAddress;
 use rules::Station;
 use rules::Stepped;
 ghost use mathlib.Core.Path.{_≡_};
-ghost use mathlib.Core.Option.{some};
+ghost use mathlib.Core.Option.{none, some};
 ghost use lib.Dec.{eqb};
-ghost use lib.ListN.{length};
+ghost use lib.ListN.{length, getD};
 ghost use Rattle.rules.specs.Calls as calls;
+ghost use Rattle.rules.specs.Invariant.{Invariant};
 ghost use Rattle.ends.specs.Answers.{answerOf};
-ghost use Rattle.script.specs.Layout.{call, given, pilotIn, queryIn, ofKind};
+ghost use Rattle.script.specs.Events.{call, given};
+ghost use Rattle.script.specs.Layout.{pilotIn, queryIn, kinds};
 ghost use Rattle.script.specs.Promises.{Happens};
-ghost use Rattle.script.specs.Private.{nothingAs, Ready, RoomReady, Fits, Answered};
+ghost use Rattle.script.specs.Private.{Ready, RoomReady, Stays, Fits, Answered};
 
 // An event that is not carried out.
 pub(crate) fn nothing(station: Station) -> Happened
-    ensures { λ r. ⌜ r ≡ nothingAs station ⌝ }
+    ensures { λ r. ⌜ Stays station (r .station) (r .octets) ⌝ }
 {
     Happened {
         station: station,
@@ -42,7 +44,7 @@ fn reply(stepped: Stepped, out: &mut [u8]) -> Happened
 
 // A frame: the part of the output behind the reply's first octets is lent.
 fn frame(station: Station, octets: &[u8], room: usize, out: &mut [u8]) -> Happened
-    requires { ⌜ RoomReady station room (now out) ⌝ }
+    requires { ⌜ RoomReady (Invariant station) room (now out) ⌝ }
     ensures { λ r. ⌜ Happens station (some (call (calls.frame (now (octets .entry)) room))) (now (out .entry)) (now (out .exit)) r ⌝ }
 {
     let end = REPLY_OCTETS + room;
@@ -52,7 +54,7 @@ fn frame(station: Station, octets: &[u8], room: usize, out: &mut [u8]) -> Happen
 
 // A tick has no octets: the same part of the output is lent.
 fn tick(station: Station, reading: u32, room: usize, octets: &[u8], out: &mut [u8]) -> Happened
-    requires { ⌜ RoomReady station room (now out) ⌝ }
+    requires { ⌜ RoomReady (Invariant station) room (now out) ⌝ }
     ensures { λ r. ⌜ Happens station (given (eqb (length (now (octets .entry))) 0) (call (calls.tick reading room))) (now (out .entry)) (now (out .exit)) r ⌝ }
 {
     if octets.len() != 0 {
@@ -65,10 +67,10 @@ fn tick(station: Station, reading: u32, room: usize, octets: &[u8], out: &mut [u
 
 // A pilot event has one octet, the number of the pilot state.
 fn pilot(station: Station, reading: u32, octets: &[u8], out: &mut [u8]) -> Happened
-    requires { ⌜ Ready station (now out) ⌝ }
+    requires { ⌜ Ready (Invariant station) (now out) ⌝ }
     ensures { λ r. ⌜ Happens station (pilotIn reading (now (octets .entry))) (now (out .entry)) (now (out .exit)) r ⌝ }
 {
-    let n = numbers::octet_at(octets, 0);
+    let n = octets::octet_at(octets, 0);
     if !((octets.len() == 1) & (n < 6)) {
         return nothing(station);
     }
@@ -78,7 +80,7 @@ fn pilot(station: Station, reading: u32, octets: &[u8], out: &mut [u8]) -> Happe
 
 // Terminate has no octets.
 fn terminate(station: Station, octets: &[u8], out: &mut [u8]) -> Happened
-    requires { ⌜ Ready station (now out) ⌝ }
+    requires { ⌜ Ready (Invariant station) (now out) ⌝ }
     ensures { λ r. ⌜ Happens station (given (eqb (length (now (octets .entry))) 0) (call calls.terminate)) (now (out .entry)) (now (out .exit)) r ⌝ }
 {
     if octets.len() != 0 {
@@ -90,7 +92,7 @@ fn terminate(station: Station, octets: &[u8], out: &mut [u8]) -> Happened
 
 // Link up has no octets.
 fn link_up(station: Station, octets: &[u8], out: &mut [u8]) -> Happened
-    requires { ⌜ Ready station (now out) ⌝ }
+    requires { ⌜ Ready (Invariant station) (now out) ⌝ }
     ensures { λ r. ⌜ Happens station (given (eqb (length (now (octets .entry))) 0) (call calls.linkUp)) (now (out .entry)) (now (out .exit)) r ⌝ }
 {
     if octets.len() != 0 {
@@ -102,13 +104,13 @@ fn link_up(station: Station, octets: &[u8], out: &mut [u8]) -> Happened
 
 // A service query has six octets, the car's address.
 fn query(station: Station, octets: &[u8], out: &mut [u8]) -> Happened
-    requires { ⌜ Ready station (now out) ⌝ }
+    requires { ⌜ Ready (Invariant station) (now out) ⌝ }
     ensures { λ r. ⌜ Happens station (queryIn (now (octets .entry))) (now (out .entry)) (now (out .exit)) r ⌝ }
 {
     if octets.len() != 6 {
         return nothing(station);
     }
-    let car = CarAddress(numbers::number_at(octets, 0, 6));
+    let car = CarAddress(octets::number_at(octets, 0, 6));
     let heard = rules::sounds_heard(station, car);
     let size = replies::put_heard(out, heard);
     Happened {
@@ -118,17 +120,13 @@ fn query(station: Station, octets: &[u8], out: &mut [u8]) -> Happened
 }
 
 // The event of a kind.
-pub(crate) fn of_kind(
-    station: Station,
-    kind: u64,
-    reading: u32,
-    room: usize,
-    octets: &[u8],
-    out: &mut [u8],
-) -> Happened
-    requires { ⌜ RoomReady station room (now out) ⌝ }
-    ensures { λ r. ⌜ Happens station (ofKind kind reading room (now (octets .entry))) (now (out .entry)) (now (out .exit)) r ⌝ }
+pub(crate) fn of_kind(station: Station, head: EventHead, octets: &[u8], out: &mut [u8]) -> Happened
+    requires { ⌜ RoomReady (Invariant station) (head .room) (now out) ⌝ }
+    ensures { λ r. ⌜ Happens station (getD (kinds (head .reading) (head .room) (now (octets .entry))) (head .kind) none) (now (out .entry)) (now (out .exit)) r ⌝ }
 {
+    let kind = head.kind;
+    let reading = head.reading;
+    let room = head.room;
     match kind {
         0 => frame(station, octets, room, out),
         1 => tick(station, reading, room, octets, out),

@@ -1,6 +1,9 @@
-// The bench script: its head, its events and their replies, in octets.
+// The bench script: its head, its events and their replies, in octets. The car's is in a module of its own.
+mod car_doing;
 mod doing;
+mod events;
 mod numbers;
+pub mod of_car;
 mod replies;
 
 use messages::ModemAddress;
@@ -11,8 +14,10 @@ use rules::Station;
 ghost use mathlib.Core.Path.{_≡_};
 ghost use lib.ListN.{length};
 ghost use Rattle.rules.specs.Invariant.{Invariant};
-ghost use Rattle.script.specs.Layout.{countIn, lengthIn, isSized};
-ghost use Rattle.script.specs.Promises.{Starts, Happens, carriedOut};
+ghost use Rattle.script.specs.Ends.{carriedOut};
+ghost use Rattle.script.specs.Events.{lengthIn};
+ghost use Rattle.script.specs.Layout.{countIn, kinds};
+ghost use Rattle.script.specs.Promises.{Starts, Happens};
 
 // How many octets the head takes: two addresses, NID, NMK and the number of events.
 pub const HEAD_OCTETS: usize = 39;
@@ -48,12 +53,12 @@ pub struct Happened {
 pub fn start(head: &[u8]) -> Started
     ensures { λ r. ⌜ Starts (now (head .entry)) r ⌝ }
 {
-    let address = StationAddress(numbers::number_at(head, 0, 6));
-    let modem = ModemAddress(numbers::number_at(head, 6, 6));
-    let nid = Nid(numbers::low_number_at(head, 12, 7));
+    let address = StationAddress(octets::number_at(head, 0, 6));
+    let modem = ModemAddress(octets::number_at(head, 6, 6));
+    let nid = Nid(octets::low_number_at(head, 12, 7));
     let nmk = Nmk(
-        numbers::number_at(head, 19, 8),
-        numbers::number_at(head, 27, 8),
+        octets::number_at(head, 19, 8),
+        octets::number_at(head, 27, 8),
     );
     let configured = rules::configure(address, modem, nid, nmk);
     let station = configured.station;
@@ -69,39 +74,25 @@ pub fn start(head: &[u8]) -> Started
 pub fn event_count(head: &[u8]) -> u64
     ensures { λ r. ⌜ r ≡ countIn (now (head .entry)) ⌝ }
 {
-    numbers::low_number_at(head, 35, 4)
+    octets::low_number_at(head, 35, 4)
 }
 
 // How many octets follow an event's first ones.
 pub fn event_length(event: &[u8]) -> u64
     ensures { λ r. ⌜ r ≡ lengthIn (now (event .entry)) ⌝ }
 {
-    numbers::low_number_at(event, 12, 4)
-}
-
-// Whether an event has as many octets as it tells, and neither they nor its room are too many.
-fn is_sized(event: &[u8]) -> bool
-    ensures { λ r. ⌜ r ≡ isSized (now (event .entry)) ⌝ }
-{
-    let room = numbers::low_number_at(event, 8, 4) as usize;
-    let length = numbers::low_number_at(event, 12, 4) as usize;
-    (room <= MOST_OCTETS) & (length <= MOST_OCTETS) & (event.len() == EVENT_OCTETS + length)
+    octets::low_number_at(event, 12, 4)
 }
 
 // Carries an event out: its reply stands from the output's first octet. Octets that break the layout do nothing, and so does
 // an output that is shorter than the longest reply.
 pub fn event(station: Station, event: &[u8], out: &mut [u8]) -> Happened
     requires { ⌜ Invariant station ⌝ }
-    ensures { λ r. ⌜ Happens station (carriedOut (now (event .entry)) (length (now (out .entry)))) (now (out .entry)) (now (out .exit)) r ⌝ }
+    ensures { λ r. ⌜ Happens station (carriedOut kinds (now (event .entry)) (length (now (out .entry)))) (now (out .entry)) (now (out .exit)) r ⌝ }
 {
-    if out.len() < LONGEST_REPLY {
+    if !((LONGEST_REPLY <= out.len()) & events::is_sized(event)) {
         return doing::nothing(station);
     }
-    if !is_sized(event) {
-        return doing::nothing(station);
-    }
-    let kind = numbers::low_number_at(event, 0, 4);
-    let reading = numbers::low_number_at(event, 4, 4) as u32;
-    let room = numbers::low_number_at(event, 8, 4) as usize;
-    doing::of_kind(station, kind, reading, room, &event[EVENT_OCTETS..], out)
+    let head = events::head_of(event);
+    doing::of_kind(station, head, &event[EVENT_OCTETS..], out)
 }

@@ -1,17 +1,24 @@
 // Writing a reply's octets.
 use crate::REPLY_OCTETS;
-use crate::numbers;
+use car_rules::Key;
+use car_rules::KeyAnswer;
 use ends::Answer;
+use messages::Refusal;
 use rules::HeardAnswer;
 ghost use mathlib.Core.Path.{_≡_};
 ghost use Prim.Native.Nat.{_≤_};
 ghost use lib.ListN.{length};
-ghost use Rattle.messages.specs.Octets.{splice};
+ghost use lib.Seq.{sets};
+ghost use Rattle.octets.specs.Octets.{splice};
 ghost use Rattle.ends.specs.Answers.{answerOf};
 ghost use Rattle.rules.specs.Answers.{heardOf};
-ghost use Rattle.script.specs.Replies.{replyHead, queryReply, refusalNumber};
-ghost use Rattle.script.specs.Promises.{replyOctets, longestReply};
+ghost use Rattle.car_rules.specs.Answers.{keyOf};
+ghost use Rattle.messages.specs.Answers.{numberOf};
+ghost use Rattle.script.specs.Replies.{number, replyOctets, longestReply, replyHead, keyOctets, queryReply, refusalNumber};
 ghost use Rattle.script.specs.Private.{Fits, Answered, Replied};
+
+// How many octets a key takes: the station's address, NID and NMK.
+const KEY_OCTETS: usize = 29;
 
 // The number of an answer's refusal, or 0.
 pub(crate) fn refusal_of(answer: Answer) -> u32
@@ -32,9 +39,18 @@ fn put_head(out: &mut [u8], refusal: u32, indication: u32, size: usize)
     requires { ⌜ replyOctets ≤ length (now out) ⌝ }
     ensures { λ _. ⌜ now (out .exit) ≡ splice 0 (replyHead refusal indication size) (now (out .entry)) ⌝ }
 {
-    numbers::put_number(out, 0, refusal as u64);
-    numbers::put_number(out, 4, indication as u64);
-    numbers::put_number(out, 8, size as u64);
+    octets::put_low_number(out, 0, 4, refusal as u64);
+    octets::put_low_number(out, 4, 4, indication as u64);
+    octets::put_low_number(out, 8, 4, size as u64);
+}
+
+// Writes the reply to what is refused, and gives its length.
+fn put_refusal(out: &mut [u8], refusal: Refusal) -> usize
+    requires { ⌜ longestReply ≤ length (now out) ⌝ }
+    ensures { λ r. ⌜ Replied (replyHead (numberOf refusal) 0 0) (now (out .entry)) (now (out .exit)) r ⌝ }
+{
+    put_head(out, messages::refusal_number(refusal), 0, 0);
+    REPLY_OCTETS
 }
 
 // Writes the first octets of an answer's reply, and gives the reply's length.
@@ -43,10 +59,7 @@ pub(crate) fn put_answer(out: &mut [u8], answer: Answer) -> usize
     ensures { λ r. ⌜ Answered (answerOf answer) (now (out .entry)) (now (out .exit)) r ⌝ }
 {
     match answer {
-        Answer::Refused(refusal) => {
-            put_head(out, messages::refusal_number(refusal), 0, 0);
-            REPLY_OCTETS
-        }
+        Answer::Refused(refusal) => put_refusal(out, refusal),
         Answer::Done {
             frames: _,
             octets,
@@ -58,19 +71,44 @@ pub(crate) fn put_answer(out: &mut [u8], answer: Answer) -> usize
     }
 }
 
+// Writes a key's octets behind a reply's first ones: the station, its NID and its NMK.
+fn put_key_octets(out: &mut [u8], key: Key)
+    ensures { λ _. ⌜ now (out .exit) ≡ sets (now (out .entry)) replyOctets (keyOctets key) ⌝ }
+{
+    let station = key.station;
+    let nid = key.nid;
+    let nmk = key.nmk;
+    octets::put_number(out, REPLY_OCTETS, 6, station.0);
+    octets::put_low_number(out, REPLY_OCTETS + 6, 7, nid.0);
+    octets::put_number(out, REPLY_OCTETS + 13, 8, nmk.0);
+    octets::put_number(out, REPLY_OCTETS + 21, 8, nmk.1);
+}
+
+// Writes the reply to the key query, and gives its length.
+pub(crate) fn put_key(out: &mut [u8], answer: KeyAnswer) -> usize
+    requires { ⌜ longestReply ≤ length (now out) ⌝ }
+    ensures { λ r. ⌜ Replied (queryReply keyOctets (keyOf answer)) (now (out .entry)) (now (out .exit)) r ⌝ }
+{
+    match answer {
+        KeyAnswer::Refused(refusal) => put_refusal(out, refusal),
+        KeyAnswer::Given(key) => {
+            put_head(out, 0, 0, KEY_OCTETS);
+            put_key_octets(out, key);
+            REPLY_OCTETS + KEY_OCTETS
+        }
+    }
+}
+
 // Writes the reply to the service query, and gives its length.
 pub(crate) fn put_heard(out: &mut [u8], heard: HeardAnswer) -> usize
     requires { ⌜ longestReply ≤ length (now out) ⌝ }
-    ensures { λ r. ⌜ Replied (queryReply (heardOf heard)) (now (out .entry)) (now (out .exit)) r ⌝ }
+    ensures { λ r. ⌜ Replied (queryReply number (heardOf heard)) (now (out .entry)) (now (out .exit)) r ⌝ }
 {
     match heard {
-        HeardAnswer::Refused(refusal) => {
-            put_head(out, messages::refusal_number(refusal), 0, 0);
-            REPLY_OCTETS
-        }
+        HeardAnswer::Refused(refusal) => put_refusal(out, refusal),
         HeardAnswer::Heard(n) => {
             put_head(out, 0, 0, 4);
-            numbers::put_number(out, REPLY_OCTETS, n as u64);
+            octets::put_low_number(out, REPLY_OCTETS, 4, n as u64);
             REPLY_OCTETS + 4
         }
     }

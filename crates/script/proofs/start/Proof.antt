@@ -1,5 +1,5 @@
 -- The head's numbers; then configuring.
-use Rattle.script.proofs.EventLaws.{configured-as, started}
+use Rattle.script.proofs.EventLaws.{started}
 use borrow.Author.Needs.{needs}
 use Rattle.script.proofs.start.Statement.{statement}
 use Rattle.script.proofs.start.Tie as tie
@@ -33,8 +33,9 @@ octets-of-requires c κs = search needs
 
 returns : tie.Need-returns
 returns c =
-    let h = c .before .before .before .before .before .before .before .before .before .before .args .head .now in
-    started h (c .before .before .before .configure .result) _ _ (configured-as h _ _ _ _ _ _ (c .before .before .before .before .before .before .before .before .number-at .ensures) (c .before .before .before .before .before .before .before .number-at2 .ensures) (c .before .before .before .before .before .before .low-number-at .ensures) (c .before .before .before .before .before .number-at3 .ensures) (c .before .before .before .before .number-at4 .ensures) (c .before .before .before .configure .ensures)) (c .before .refusal-of .ensures) (c .octets-of .ensures)
+    let g = c .before .before .before .configure .ensures in
+    rw (← c .before .before .before .before .before .before .before .before .number-at .ensures, ← c .before .before .before .before .before .before .before .number-at2 .ensures, ← c .before .before .before .before .before .before .low-number-at .ensures, ← c .before .before .before .before .before .number-at3 .ensures, ← c .before .before .before .before .number-at4 .ensures)
+    (started (g .station) (g .answer) (g .kept) (c .before .refusal-of .ensures) (c .octets-of .ensures))
 
 pub start-spec : {M : Type 1} → statement M
 start-spec =

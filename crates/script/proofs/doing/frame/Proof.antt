@@ -1,9 +1,5 @@
 -- A part of the output is lent.
-use Rattle.script.specs.Promises.{replyOctets}
-use native.Mathlib.Omega.{arith}
-use Prim.Native.Nat.{_+_, _-_}
-use Rattle.rules.specs.Calls as calls
-use Rattle.script.proofs.ReplyLaws.{lent-fits, lent}
+use Rattle.script.proofs.CallLaws.{of-station, behind-length, lent-fits, lent}
 use borrow.Author.Needs.{needs}
 use Rattle.script.proofs.doing.frame.Statement.{statement}
 use Rattle.script.proofs.doing.frame.Tie as tie
@@ -24,9 +20,7 @@ frame-requires : tie.Need-frame-requires
 frame-requires c κs = search needs
 
 reply-requires : tie.Need-reply-requires
-reply-requires c κs =
-    let s = c .before .before .before .before .before .before .before in
-    lent-fits (s .args .station) (calls.frame (s .args .octets .now)) (s .args .out .now) _ (s .args .room) (replyOctets + s .args .room - replyOctets) _ (s .pre .ready .output) (s .pre .room) (omega arith) (c .before .before .before .frame .ensures) (search needs) _ (search needs)
+reply-requires c κs = lent-fits (c .before .before .before .before .before .before .before .pre) (of-station (c .before .before .before .frame .ensures)) (search needs) (search needs)
 
 same-length : tie.Need-same-length
 same-length c = search needs
@@ -34,7 +28,7 @@ same-length c = search needs
 returns : tie.Need-returns
 returns c =
     let s = c .before .before .before .before .before .before .before .before .before .before in
-    lent (s .args .station) (calls.frame (s .args .octets .now)) (s .args .out .now) _ (s .args .room) (replyOctets + s .args .room - replyOctets) _ (s .pre .ready .output) (s .pre .room) (omega arith) (c .before .before .before .before .before .before .frame .ensures) (search needs) _ _ (c .before .before .reply .ensures .0) (c .before .before .reply .ensures .1)
+    lent (s .pre) (of-station (rw (behind-length (s .pre)) at (c .before .before .before .before .before .before .frame .ensures))) (search needs) (c .before .before .reply .ensures)
 
 pub frame-spec : {M : Type 1} → statement M
 frame-spec =

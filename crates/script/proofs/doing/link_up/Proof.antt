@@ -1,8 +1,7 @@
 -- By the test; then the call.
 use borrow.Author.Tests.{ne-eqb, eq-eqb}
 use lib.ListN.{length}
-use Rattle.script.proofs.ReplyLaws.{happens-as, not-done, alone-fits, alone}
-use Rattle.script.proofs.EventLaws.{is-given, not-given}
+use Rattle.script.proofs.CallLaws.{nothing-done, of-station, alone-fits, alone}
 use borrow.Author.Needs.{needs}
 use Rattle.script.proofs.doing.link_up.Statement.{statement}
 use Rattle.script.proofs.doing.link_up.Tie as tie
@@ -13,15 +12,14 @@ nothing-requires c κs = search needs
 returns : tie.Need-returns
 returns c =
     let s = c .before .before .before .before in
-    not-done (s .args .station) _ _ _ (s .pre .kept) (not-given _ _ (ne-eqb (length (s .args .octets .now)) 0 (c .before .if1 .taken))) (c .nothing .ensures)
+    rw (ne-eqb (length (s .args .octets .now)) 0 (c .before .if1 .taken))
+    (nothing-done (s .pre .kept) (c .nothing .ensures))
 
 link-up-requires : tie.Need-link-up-requires
 link-up-requires c κs = search needs
 
 reply-requires : tie.Need-reply-requires
-reply-requires c κs =
-    let s = c .before .before .before .before .before in
-    alone-fits (s .args .station) _ (s .args .out .now) _ (s .pre .output) (c .before .link-up .ensures)
+reply-requires c κs = alone-fits (c .before .before .before .before .before .pre) (of-station (c .before .link-up .ensures))
 
 same-length : tie.Need-same-length
 same-length c = search needs
@@ -29,7 +27,8 @@ same-length c = search needs
 returns-2 : tie.Need-returns-2
 returns-2 c =
     let s = c .before .before .before .before .before .before .before .before in
-    happens-as (s .args .station) _ _ (s .args .out .now) _ _ (is-given _ _ (eq-eqb (length (s .args .octets .now)) 0 (c .before .before .before .before .before .if1 .left))) (alone (s .args .station) _ (s .args .out .now) _ (s .pre .output) (c .before .before .before .before .link-up .ensures) _ _ (c .before .before .reply .ensures .0) (c .before .before .reply .ensures .1))
+    rw (eq-eqb (length (s .args .octets .now)) 0 (c .before .before .before .before .before .if1 .left))
+    (alone (s .pre) (of-station (c .before .before .before .before .link-up .ensures)) (c .before .before .reply .ensures))
 
 pub link-up-spec : {M : Type 1} → statement M
 link-up-spec =

@@ -1,9 +1,9 @@
 -- By the kind.
-use Prim.Native.Nat.{ℕ}
-use mathlib.Core.Path.{ap}
-use Rattle.script.specs.Layout.{ofKind}
-use Rattle.script.proofs.ReplyLaws.{happens-as, not-done}
-use Rattle.script.proofs.EventLaws.{no-kind}
+use mathlib.Core.Option.{none}
+use native.Mathlib.Omega.{arith}
+use lib.ListN.{List·getD-eq-default}
+use Rattle.script.specs.Layout.{kinds}
+use Rattle.script.proofs.CallLaws.{nothing-done}
 use borrow.Author.Needs.{needs}
 use Rattle.script.proofs.doing.of_kind.Statement.{statement}
 use Rattle.script.proofs.doing.of_kind.Tie as tie
@@ -33,60 +33,50 @@ same-length : tie.Need-same-length
 same-length c = search needs
 
 returns : tie.Need-returns
-unfolding ofKind
-returns c =
-    let a = c .before .before .before .before .before .before .before .args in
-    happens-as (a .station) _ _ _ _ _ (ap (λ (k : ℕ). ofKind k (a .reading) (a .room) (a .octets .now)) (c .before .before .before .before .match .keys1)) (c .before .before .frame .ensures)
+unfolding kinds
+returns c = rw (c .before .before .before .before .match .keys1) (c .before .before .frame .ensures)
 
 same-length-2 : tie.Need-same-length-2
 same-length-2 c = search needs
 
 returns-2 : tie.Need-returns-2
-unfolding ofKind
-returns-2 c =
-    let a = c .before .before .before .before .before .before .before .args in
-    happens-as (a .station) _ _ _ _ _ (ap (λ (k : ℕ). ofKind k (a .reading) (a .room) (a .octets .now)) (c .before .before .before .before .match .keys2)) (c .before .before .tick .ensures)
+unfolding kinds
+returns-2 c = rw (c .before .before .before .before .match .keys2) (c .before .before .tick .ensures)
 
 same-length-3 : tie.Need-same-length-3
 same-length-3 c = search needs
 
 returns-3 : tie.Need-returns-3
-unfolding ofKind
-returns-3 c =
-    let a = c .before .before .before .before .before .before .before .args in
-    happens-as (a .station) _ _ _ _ _ (ap (λ (k : ℕ). ofKind k (a .reading) (a .room) (a .octets .now)) (c .before .before .before .before .match .keys3)) (c .before .before .pilot .ensures)
+unfolding kinds
+returns-3 c = rw (c .before .before .before .before .match .keys3) (c .before .before .pilot .ensures)
 
 same-length-4 : tie.Need-same-length-4
 same-length-4 c = search needs
 
 returns-4 : tie.Need-returns-4
-unfolding ofKind
-returns-4 c =
-    let a = c .before .before .before .before .before .before .before .args in
-    happens-as (a .station) _ _ _ _ _ (ap (λ (k : ℕ). ofKind k (a .reading) (a .room) (a .octets .now)) (c .before .before .before .before .match .keys4)) (c .before .before .terminate .ensures)
+unfolding kinds
+returns-4 c = rw (c .before .before .before .before .match .keys4) (c .before .before .terminate .ensures)
 
 same-length-5 : tie.Need-same-length-5
 same-length-5 c = search needs
 
 returns-5 : tie.Need-returns-5
-unfolding ofKind
-returns-5 c =
-    let a = c .before .before .before .before .before .before .before .args in
-    happens-as (a .station) _ _ _ _ _ (ap (λ (k : ℕ). ofKind k (a .reading) (a .room) (a .octets .now)) (c .before .before .before .before .match .keys5)) (c .before .before .link-up .ensures)
+unfolding kinds
+returns-5 c = rw (c .before .before .before .before .match .keys5) (c .before .before .link-up .ensures)
 
 same-length-6 : tie.Need-same-length-6
 same-length-6 c = search needs
 
 returns-6 : tie.Need-returns-6
-unfolding ofKind
-returns-6 c =
-    let a = c .before .before .before .before .before .before .before .args in
-    happens-as (a .station) _ _ _ _ _ (ap (λ (k : ℕ). ofKind k (a .reading) (a .room) (a .octets .now)) (c .before .before .before .before .match .keys6)) (c .before .before .query .ensures)
+unfolding kinds
+returns-6 c = rw (c .before .before .before .before .match .keys6) (c .before .before .query .ensures)
 
 returns-7 : tie.Need-returns-7
+unfolding kinds
 returns-7 c =
     let s = c .before .before .before .before in
-    not-done (s .args .station) _ _ _ (s .pre .ready .kept) (no-kind (s .args .kind) _ _ _ (c .before .match .rest .0 .0 .0 .0 .0 .1) (c .before .match .rest .0 .0 .0 .0 .1) (c .before .match .rest .0 .0 .0 .1) (c .before .match .rest .0 .0 .1) (c .before .match .rest .0 .1) (c .before .match .rest .1)) (c .nothing .ensures)
+    rw (List·getD-eq-default (kinds (s .args .head .reading) (s .args .head .room) (s .args .octets .now)) none {n = s .args .head .kind} (omega arith))
+    (nothing-done (s .pre .ready .kept) (c .nothing .ensures))
 
 pub of-kind-spec : {M : Type 1} → statement M
 of-kind-spec =

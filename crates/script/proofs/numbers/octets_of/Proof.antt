@@ -1,7 +1,7 @@
 -- The four octets, one by one.
 use mathlib.Core.Path.{refl}
 use borrow.Author.Needs.{needs}
-use Rattle.messages.specs.Octets.{lowBytes}
+use Rattle.octets.specs.Octets.{lowBytes}
 use Rattle.script.proofs.numbers.octets_of.Statement.{statement}
 use Rattle.script.proofs.numbers.octets_of.Tie as tie
 

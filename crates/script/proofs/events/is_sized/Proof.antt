@@ -1,9 +1,9 @@
 -- The three tests.
 use native.Mathlib.Omega.{arith}
-use Rattle.messages.proofs.OctetLaws.{low-lt}
+use Rattle.octets.proofs.OctetLaws.{low-lt}
 use borrow.Author.Needs.{needs}
-use Rattle.script.proofs.is_sized.Statement.{statement}
-use Rattle.script.proofs.is_sized.Tie as tie
+use Rattle.script.proofs.events.is_sized.Statement.{statement}
+use Rattle.script.proofs.events.is_sized.Tie as tie
 
 low-number-at-requires : tie.Need-low-number-at-requires
 low-number-at-requires c κs = search needs
