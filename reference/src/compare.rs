@@ -1,9 +1,12 @@
-//! Compares two outputs of one script.
+//! Compares two outputs of one script, a station's or a car's.
 
-use crate::messages::{Body, Message};
+use crate::messages::{Address, Body, Message};
 use crate::refusal;
 use crate::script::{take_number, Answer};
 use std::io::{self, BufReader, Read};
+
+/// What a car's key query gives: station 6, NID 7, NMK 16. No frame is so short.
+const KEY: usize = 29;
 
 /// Writes what was found in words: `Ok` if all is equal, else the first difference.
 pub fn compare(one: impl Read, other: impl Read) -> io::Result<Result<String, String>> {
@@ -35,9 +38,12 @@ pub fn refused(number: u32) -> String {
 
 fn words(answer: &Option<Answer>) -> String {
     let Some(Answer { refusal, indication, octets }) = answer else { return "no answer".into() };
-    let given = match <[u8; 4]>::try_from(&octets[..]) {
-        Ok(number) => format!("the number {}", u32::from_le_bytes(number)),
-        Err(_) => format!("{}: {}", frames(octets), hex(octets)),
+    let given = match octets[..] {
+        [a, b, c, d] => format!("the number {}", u32::from_le_bytes([a, b, c, d])),
+        [a, b, c, d, e, f, ref key @ ..] if octets.len() == KEY => {
+            format!("the key of {}: {}", Address([a, b, c, d, e, f]), hex(key))
+        }
+        _ => format!("{}: {}", frames(octets), hex(octets)),
     };
     format!("{}, {}, {given}", refused(*refusal), indicated(*indication))
 }
@@ -48,6 +54,10 @@ pub fn indicated(indication: u32) -> String {
         0 => "no indication".into(),
         1 => "no link".into(),
         2 => "link established".into(),
+        3 => "found".into(),
+        4 => "potentially found".into(),
+        5 => "not found".into(),
+        6 => "key given".into(),
         other => format!("indication {other}"),
     }
 }

@@ -9,16 +9,39 @@ use std::fmt;
 
 /// Counts by group and row, in the order of the table.
 #[derive(Default)]
-pub struct Counts(BTreeMap<(&'static str, String), u64>);
+pub struct Table(BTreeMap<(&'static str, String), u64>);
+
+impl Table {
+    /// A row of zero, so that what is never reached shows.
+    pub fn row(&mut self, group: &'static str, name: &str) {
+        self.0.insert((group, name.into()), 0);
+    }
+
+    /// One more; a row of its own where there is none.
+    pub fn add(&mut self, group: &'static str, name: &str) {
+        *self.0.entry((group, name.into())).or_default() += 1;
+    }
+
+    /// A row of zero for each of these refusals.
+    pub fn refusals(&mut self, numbers: &[u32]) {
+        numbers.iter().for_each(|number| self.row("1 refusal", &refused(*number)));
+    }
+
+    pub fn refused(&mut self, refusal: Refusal) {
+        self.add("1 refusal", &refused(refusal.number()));
+    }
+}
+
+/// The station's table.
+#[derive(Default)]
+pub struct Counts(Table);
 
 impl Counts {
-    /// A table of zeros, so that what is never reached shows.
+    /// A table of zeros.
     pub fn new() -> Counts {
         let mut counts = Counts::default();
-        let mut row = |group, name: &str| counts.0.insert((group, name.into()), 0);
-        for (number, words) in (1..).zip(refusal::WORDS) {
-            row("1 refusal", &refused(number, words));
-        }
+        counts.0.refusals(&refusal::OF_STATIONS);
+        let mut row = |group, name: &str| counts.0.row(group, name);
         for kind in Kind::ALL {
             row("5 damaged", kind.name());
             row("6 short output", kind.name());
@@ -39,18 +62,13 @@ impl Counts {
     }
 
     fn add(&mut self, group: &'static str, name: &str) {
-        *self.0.entry((group, name.into())).or_default() += 1;
+        self.0.add(group, name);
     }
 
     pub fn configured(&mut self, answer: Result<(), Refusal>) {
         if let Err(refusal) = answer {
-            self.refused(refusal);
+            self.0.refused(refusal);
         }
-    }
-
-    fn refused(&mut self, refusal: Refusal) {
-        let number = refusal.number();
-        self.add("1 refusal", &refused(number, refusal::words(number)));
     }
 
     /// Counts one event by the station before and after it.
@@ -74,7 +92,7 @@ impl Counts {
                 self.add("2 indication", indication);
             }
             Err(refusal) => {
-                self.refused(*refusal);
+                self.0.refused(*refusal);
                 if refusal.number() <= 6 {
                     self.add("5 damaged", kind);
                 } else if *refusal == Refusal::Output {
@@ -148,15 +166,22 @@ const PASSAGES: [&str; 11] = [
     "tick with 3 reports", "tick with 4 reports", "tick with 5 reports",
 ];
 
-fn refused(number: u32, words: &str) -> String {
-    format!("{number:>2} {words}")
+fn refused(number: u32) -> String {
+    format!("{number:>2} {}", refusal::words(number))
 }
 
 impl fmt::Display for Counts {
     fn fmt(&self, f: &mut fmt::Formatter) -> fmt::Result {
+        self.0.fmt(f)
+    }
+}
+
+impl fmt::Display for Table {
+    fn fmt(&self, f: &mut fmt::Formatter) -> fmt::Result {
+        let longest = self.0.keys().map(|(_, name)| name.len()).max().unwrap_or(0).max(40);
         for ((group, name), count) in &self.0 {
             let group = group.trim_start_matches(|c: char| c.is_ascii_digit()).trim_start();
-            writeln!(f, "{group:<16}  {name:<40}  {count:>9}")?;
+            writeln!(f, "{group:<16}  {name:<longest$}  {count:>9}")?;
         }
         Ok(())
     }

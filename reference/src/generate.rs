@@ -1,44 +1,10 @@
 //! Random scripts from a seed, and the demo script.
 
-use crate::messages::{Address, Body, Kind, Message, Nid, Nmk, RunId};
-use crate::script::{write_head, Event, MOST};
+use crate::messages::{Address, Body, Message, Nid, Nmk, RunId};
+use crate::random::Random;
+use crate::script::{write_head, Event};
 use crate::station::{Config, Phase, Pilot, State, Station};
 use std::io::{self, Write};
-
-/// SplitMix64.
-struct Random(u64);
-
-impl Random {
-    fn next(&mut self) -> u64 {
-        self.0 = self.0.wrapping_add(0x9E37_79B9_7F4A_7C15);
-        let mixed = (self.0 ^ (self.0 >> 30)).wrapping_mul(0xBF58_476D_1CE4_E5B9);
-        let mixed = (mixed ^ (mixed >> 27)).wrapping_mul(0x94D0_49BB_1331_11EB);
-        mixed ^ (mixed >> 31)
-    }
-
-    /// A number below the bound, or 0.
-    fn below(&mut self, bound: usize) -> usize {
-        (self.next() % (bound.max(1) as u64)) as usize
-    }
-
-    fn chance(&mut self, per_cent: usize) -> bool {
-        self.below(100) < per_cent
-    }
-
-    /// One of the choices; `otherwise` if there are none.
-    fn pick<T: Copy>(&mut self, choices: &[T], otherwise: T) -> T {
-        choices.get(self.below(choices.len())).copied().unwrap_or(otherwise)
-    }
-
-    fn octets<const N: usize>(&mut self) -> [u8; N] {
-        std::array::from_fn(|_| self.next() as u8)
-    }
-
-    fn unicast(&mut self, last: u8) -> Address {
-        let [a, b, c, d, e] = self.octets();
-        Address([a & 0xFE, b, c, d, e, last])
-    }
-}
 
 /// What an episode from plug-in to plug-in is like.
 struct Mood {
@@ -69,7 +35,7 @@ struct Generator {
 
 /// `generate SEED EVENTS`.
 pub fn generate(seed: u64, events: u32, script: &mut impl Write) -> io::Result<()> {
-    let mut generator = Generator::new(Random(seed));
+    let mut generator = Generator::new(Random::new(seed));
     let config = generator.written_config();
     write_head(script, &config, events)?;
     for _ in 0..events {
@@ -219,19 +185,8 @@ impl Generator {
             90..=93 => self.stray_message(),
             _ => self.car_only_message(),
         };
-        let mut octets = message.to_frame().unwrap_or_default();
-        if self.random.chance(self.mood.damage) {
-            self.damage(&mut octets);
-            if self.random.chance(30) {
-                self.damage(&mut octets);
-            }
-        } else if self.random.chance(5) {
-            let shortest = message.body.kind().shortest();
-            let padded = octets.len().saturating_sub(shortest);
-            octets.truncate(shortest + self.random.below(padded + 1));
-            let padding = self.random.next() as u8;
-            octets.iter_mut().skip(shortest).for_each(|octet| *octet = padding);
-        }
+        let Config { station, modem, .. } = self.config;
+        let octets = self.random.frame(&message, self.mood.damage, [station, modem]);
         Event::Frame { octets, room: self.room() }
     }
 
@@ -332,42 +287,6 @@ impl Generator {
             self.random.pick(&[car, station], car),
         )
     }
-
-    fn damage(&mut self, octets: &mut Vec<u8>) {
-        let Config { station, modem, .. } = self.config;
-        let length = octets.len();
-        let other = self.random.unicast(0xCC);
-        let group = Address([3, 0, 0, 0, 0, 1]);
-        let end = [station, modem, other, group, Address::BROADCAST, Address([0; 6])];
-        let end = self.random.pick(&end, group);
-        let kind = self.random.pick(&Kind::ALL, Kind::ParmReq);
-        let near = kind.type_number().wrapping_add(self.random.below(3) as u16);
-        match self.random.below(12) {
-            0..=4 => {
-                let any = self.random.below(length);
-                let at = self.random.pick(&[any, any, any, 17, 18, 19, 70, 91], any);
-                let bit = 1 << self.random.below(8);
-                octets.iter_mut().skip(at).take(1).for_each(|octet| *octet ^= bit);
-            }
-            5 => octets.truncate(self.random.below(length)),
-            6 => {
-                let shortest = Kind::of(octets).map_or(19, Kind::shortest);
-                octets.truncate(self.random.pick(&[0, 18, 19, 20, shortest - 1], shortest));
-            }
-            7 => octets.resize(MOST.min(length + 1 + self.random.below(60)), 0),
-            8 => replace(octets, 0, &end.0),
-            9 => replace(octets, 6, &end.0),
-            10 => replace(octets, 15, &near.wrapping_sub(1).to_le_bytes()),
-            _ => {
-                let length = self.random.pick(&[30, 60, 129, MOST], 60);
-                *octets = (0..length).map(|_| self.random.next() as u8).collect();
-            }
-        }
-    }
-}
-
-fn replace(octets: &mut [u8], at: usize, by: &[u8]) {
-    octets.iter_mut().skip(at).zip(by).for_each(|(octet, new)| *octet = *new);
 }
 
 /// `demo`: a whole matching of one car; the neighbour's frames are heard on the same line, but it

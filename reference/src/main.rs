@@ -1,10 +1,17 @@
-//! A second SLAC station, written from the scope paper alone: it runs bench scripts, makes random
-//! ones and compares outputs.
+//! A second SLAC station and a second car, written from the scope paper alone: it runs bench
+//! scripts, makes random ones and compares outputs.
 
+mod car;
+mod car_count;
+mod car_generate;
+mod car_script;
+#[cfg(test)]
+mod car_tests;
 mod compare;
 mod count;
 mod generate;
 mod messages;
+mod random;
 mod refusal;
 mod script;
 mod show;
@@ -12,6 +19,7 @@ mod station;
 #[cfg(test)]
 mod tests;
 
+use car::Car;
 use count::Counts;
 use script::{Answer, Script};
 use station::Station;
@@ -21,7 +29,9 @@ use std::io::{self, BufReader, BufWriter, Read, Write};
 use std::process::ExitCode;
 
 const USAGE: &str = "usage: reference run | show [REPLIES] | count (a script on standard input) \
-                     | generate SEED EVENTS | demo | compare A B";
+                     | generate SEED EVENTS | demo | compare A B \
+                     | car-run | car-count (a car's script on standard input) \
+                     | car-generate SEED EVENTS";
 
 fn main() -> ExitCode {
     let arguments: Vec<OsString> = std::env::args_os().skip(1).collect();
@@ -35,10 +45,14 @@ fn main() -> ExitCode {
         }
         (["count"], _) => count(input, &mut out),
         (["demo"], _) => generate::demo(&mut out).map(|()| true),
-        (["generate", seed, events], _) => match (seed.parse(), events.parse()) {
-            (Ok(seed), Ok(events)) => generate::generate(seed, events, &mut out).map(|()| true),
-            _ => Err(io::Error::other("SEED and EVENTS are numbers")),
-        },
+        (["generate", seed, events], _) => numbers(seed, events)
+            .and_then(|(seed, events)| generate::generate(seed, events, &mut out))
+            .map(|()| true),
+        (["car-run"], _) => car_run(input, &mut out),
+        (["car-count"], _) => car_count(input, &mut out),
+        (["car-generate", seed, events], _) => numbers(seed, events)
+            .and_then(|(seed, events)| car_generate::generate(seed, events, &mut out))
+            .map(|()| true),
         (["compare", ..], [_, a, b]) => compare_files(a, b, &mut out),
         _ => Err(io::Error::other(USAGE)),
     };
@@ -51,6 +65,14 @@ fn main() -> ExitCode {
             let _ = writeln!(io::stderr(), "reference: {}", flushed.err().unwrap_or(error));
             ExitCode::FAILURE
         }
+    }
+}
+
+/// SEED and EVENTS.
+fn numbers(seed: &str, events: &str) -> io::Result<(u64, u32)> {
+    match (seed.parse(), events.parse()) {
+        (Ok(seed), Ok(events)) => Ok((seed, events)),
+        _ => Err(io::Error::other("SEED and EVENTS are numbers")),
     }
 }
 
@@ -108,6 +130,35 @@ fn count(input: impl Read, out: &mut impl Write) -> io::Result<bool> {
         let before = station.clone();
         let outcome = event.happen(&mut station);
         counts.event(&event, &before, &station, &outcome);
+    }
+    write!(out, "{counts}")?;
+    Ok(true)
+}
+
+/// `car-run`: answers each event before it waits for the next.
+fn car_run(input: impl Read, out: &mut impl Write) -> io::Result<bool> {
+    let mut script = car_script::Script::open(input)?;
+    let (mut car, answer) = Car::configure(script.config);
+    script::write_configured(out, answer)?;
+    loop {
+        if script.is_waiting() {
+            out.flush()?;
+        }
+        let Some(event) = script.next_event()? else { return Ok(true) };
+        Answer::from(event.happen(&mut car)).write(out)?;
+    }
+}
+
+/// `car-count`: a table of what the car's script reaches.
+fn car_count(input: impl Read, out: &mut impl Write) -> io::Result<bool> {
+    let mut script = car_script::Script::open(input)?;
+    let (mut car, answer) = Car::configure(script.config);
+    let mut counts = car_count::Counts::new(script.config);
+    counts.configured(answer);
+    while let Some(event) = script.next_event()? {
+        let before = car.clone();
+        let outcome = event.happen(&mut car);
+        counts.event(&event, &before, &car, &outcome);
     }
     write!(out, "{counts}")?;
     Ok(true)

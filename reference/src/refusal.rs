@@ -20,6 +20,9 @@ pub enum Refusal {
     Output,
     Configuration,
     CarOnly,
+    ReportsFull,
+    OnlyForStations,
+    NoSounds,
 }
 
 impl Refusal {
@@ -29,13 +32,19 @@ impl Refusal {
 }
 
 /// What each number means, from 1 on.
-pub const WORDS: [&str; 17] = [
+const WORDS: [&str; 20] = [
     "frame too short", "frame head wrong", "unknown message type", "frame too long",
-    "address of the wrong kind", "fixed octet wrong", "not for this station",
-    "the station state takes no such event", "admission closed", "five records held",
-    "no such record", "record in another phase", "sound count over 9 or heard already",
-    "tick gap over 60,000", "output too short", "bad configuration", "only a car receives this",
+    "address of the wrong kind", "fixed octet wrong", "not for us",
+    "the state takes no such event", "admission closed", "five records held",
+    "no such record, run or station", "record in another phase",
+    "sound count over 9 or heard already", "tick gap over 60,000", "output too short",
+    "bad configuration", "only a car receives this", "ten stations' reports kept",
+    "only a station receives this", "a report of no sounds",
 ];
+
+/// The numbers that a station gives, and those that a car gives.
+pub const OF_STATIONS: [u32; 17] = [1, 2, 3, 4, 5, 6, 7, 8, 9, 10, 11, 12, 13, 14, 15, 16, 17];
+pub const OF_CARS: [u32; 15] = [1, 2, 3, 4, 5, 6, 7, 8, 11, 14, 15, 16, 18, 19, 20];
 
 /// A refusal number in words.
 pub fn words(number: u32) -> &'static str {

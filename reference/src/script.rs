@@ -1,4 +1,5 @@
-//! The bench script: its reader and writer, and the output's ("The bench script").
+//! The bench script: its reader and writer, and the output's ("The bench script"). What the car's
+//! script shares with it stands here too.
 
 use crate::messages::{Address, Nid, Nmk};
 use crate::refusal::Refusal;
@@ -19,24 +20,24 @@ pub enum Event {
 }
 
 /// An event's answer: its indication and the octets given back, or the refusal.
-pub type Outcome = Result<(Option<Indication>, Vec<u8>), Refusal>;
+pub type Outcome<I = Indication> = Result<(Option<I>, Vec<u8>), Refusal>;
 
 /// An event's answer as the output has it.
 #[derive(Clone, Debug, PartialEq, Eq)]
 pub struct Answer {
     /// The refusal's number, or 0.
     pub refusal: u32,
-    /// 1 for "no link", 2 for "link established", else 0.
+    /// 1 for "no link", 2 for "link established", 3 to 6 for a car's own, 0 for none.
     pub indication: u32,
-    /// The frames, or the number that a query gives.
+    /// The frames, or what a query gives.
     pub octets: Vec<u8>,
 }
 
-impl From<Outcome> for Answer {
-    fn from(outcome: Outcome) -> Answer {
+impl<I: Into<u32>> From<Outcome<I>> for Answer {
+    fn from(outcome: Outcome<I>) -> Answer {
         match outcome {
             Ok((indication, octets)) => {
-                Answer { refusal: 0, indication: indication.map_or(0, |i| i as u32), octets }
+                Answer { refusal: 0, indication: indication.map_or(0, I::into), octets }
             }
             Err(refusal) => Answer { refusal: refusal.number(), indication: 0, octets: Vec::new() },
         }
@@ -93,11 +94,22 @@ impl Event {
             Event::LinkUp => (4, 0, 0, &[][..]),
             Event::Query { car } => (5, 0, 0, &car.0[..]),
         };
-        write_number(script, kind)?;
-        write_number(script, reading)?;
-        write_number(script, number(room)?)?;
-        write_octets(script, octets)
+        write_entry(script, kind, reading, room, octets)
     }
+}
+
+/// An event as it stands in a script: "kind, reading, room, length, octets".
+pub fn write_entry(
+    script: &mut impl Write,
+    kind: u32,
+    reading: u32,
+    room: usize,
+    octets: &[u8],
+) -> io::Result<()> {
+    write_number(script, kind)?;
+    write_number(script, reading)?;
+    write_number(script, number(room)?)?;
+    write_octets(script, octets)
 }
 
 /// The script's head: the configuration and the number of events.
@@ -114,7 +126,7 @@ pub fn write_configured(output: &mut impl Write, answer: Result<(), Refusal>) ->
     write_number(output, answer.err().map_or(0, Refusal::number))
 }
 
-fn write_number(out: &mut impl Write, number: u32) -> io::Result<()> {
+pub fn write_number(out: &mut impl Write, number: u32) -> io::Result<()> {
     out.write_all(&number.to_le_bytes())
 }
 
@@ -166,11 +178,61 @@ fn fill(input: &mut impl Read, octets: &mut [u8]) -> io::Result<()> {
     })
 }
 
+/// An event as it stands in a script.
+pub struct Entry {
+    pub kind: u32,
+    pub reading: u32,
+    pub room: usize,
+    pub octets: Vec<u8>,
+}
+
+/// The events of a script, behind its head.
+pub struct Entries<R> {
+    input: BufReader<R>,
+    remaining: u32,
+}
+
+impl<R: Read> Entries<R> {
+    /// Reads the number of events, the head's last part.
+    pub fn open(mut input: BufReader<R>) -> io::Result<Self> {
+        let remaining = take_number(&mut input)?;
+        Ok(Entries { input, remaining })
+    }
+
+    /// Whether the next event has yet to arrive, so that answers should go out first.
+    pub fn is_waiting(&self) -> bool {
+        self.input.buffer().is_empty()
+    }
+
+    /// The next event; none after the last, where the input is to end.
+    pub fn next_entry(&mut self) -> io::Result<Option<Entry>> {
+        let Some(remaining) = self.remaining.checked_sub(1) else {
+            return match self.input.fill_buf()?.is_empty() {
+                true => Ok(None),
+                false => Err(broken("octets after the last event")),
+            };
+        };
+        self.remaining = remaining;
+        let kind = take_number(&mut self.input)?;
+        let reading = take_number(&mut self.input)?;
+        let room = take_length(&mut self.input)?;
+        let octets = take_octets(&mut self.input)?;
+        Ok(Some(Entry { kind, reading, room, octets }))
+    }
+}
+
+/// An event that breaks the layout by its kind, or by its length.
+pub fn broken_event(kind: u32) -> io::Error {
+    match kind {
+        0..=5 => broken("an event of the wrong length"),
+        _ => broken("an unknown kind of event"),
+    }
+}
+
 /// A script read event by event.
 pub struct Script<R> {
-    input: BufReader<R>,
+    entries: Entries<R>,
     pub config: Config,
-    remaining: u32,
 }
 
 impl<R: Read> Script<R> {
@@ -183,28 +245,17 @@ impl<R: Read> Script<R> {
             nid: Nid(take(&mut input)?),
             nmk: Nmk(take(&mut input)?),
         };
-        let remaining = take_number(&mut input)?;
-        Ok(Script { input, config, remaining })
+        Ok(Script { entries: Entries::open(input)?, config })
     }
 
-    /// Whether the next event has yet to arrive, so that answers should go out first.
     pub fn is_waiting(&self) -> bool {
-        self.input.buffer().is_empty()
+        self.entries.is_waiting()
     }
 
-    /// The next event; none after the last, where the input is to end.
+    /// The next event; none after the last.
     pub fn next_event(&mut self) -> io::Result<Option<Event>> {
-        let Some(remaining) = self.remaining.checked_sub(1) else {
-            return match self.input.fill_buf()?.is_empty() {
-                true => Ok(None),
-                false => Err(broken("octets after the last event")),
-            };
-        };
-        self.remaining = remaining;
-        let kind = take_number(&mut self.input)?;
-        let reading = take_number(&mut self.input)?;
-        let room = take_length(&mut self.input)?;
-        let octets = take_octets(&mut self.input)?;
+        let Some(entry) = self.entries.next_entry()? else { return Ok(None) };
+        let Entry { kind, reading, room, octets } = entry;
         let event = match (kind, &octets[..]) {
             (0, _) => Event::Frame { octets, room },
             (1, []) => Event::Tick { reading, room },
@@ -215,8 +266,7 @@ impl<R: Read> Script<R> {
             (3, []) => Event::Terminate,
             (4, []) => Event::LinkUp,
             (5, &[a, b, c, d, e, f]) => Event::Query { car: Address([a, b, c, d, e, f]) },
-            (0..=5, _) => return Err(broken("an event of the wrong length")),
-            _ => return Err(broken("an unknown kind of event")),
+            _ => return Err(broken_event(kind)),
         };
         Ok(Some(event))
     }

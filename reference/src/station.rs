@@ -80,6 +80,12 @@ pub enum Indication {
     LinkEstablished,
 }
 
+impl From<Indication> for u32 {
+    fn from(indication: Indication) -> u32 {
+        indication as u32
+    }
+}
+
 /// An accepted call: how many octets of the output its frames take, and its indication.
 #[derive(Clone, Copy, Debug, Default, PartialEq, Eq)]
 pub struct Accepted {

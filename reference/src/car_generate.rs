@@ -1,0 +1,394 @@
+//! Random scripts for a car: several stations on a line that loses, delays and damages frames.
+
+use crate::car::{Car, Config, Network, State};
+use crate::car_script::{write_head, Event};
+use crate::messages::{Address, Body, Groups, Message, Nid, Nmk, RunId};
+use crate::random::Random;
+use std::io::{self, Write};
+
+/// From which message on the stations stay silent.
+#[derive(Clone, Copy, PartialEq, Eq, PartialOrd, Ord)]
+enum Silence {
+    Confirming,
+    Reporting,
+    Matching,
+    Never,
+}
+
+/// What an episode from start to start is like.
+struct Mood {
+    stations: usize,    // how many of the stations are on the line
+    pace: usize,        // the longest usual tick
+    limits: usize,      // how many ticks in a hundred go to a limit
+    damage: usize,      // how many frames in a hundred are damaged
+    lost: usize,        // how many of the stations' frames in a hundred are lost
+    early: usize,       // how many reports in a hundred come before the last sound
+    silence: Silence,   // from which message on the stations stay silent
+    totals: (u32, u32), // the least and the greatest total of a report
+    links: bool,        // whether the link comes up
+}
+
+/// Elapsed times at, just below and just above the rules' limits.
+const LIMITS: [u32; 24] = [
+    0, 1, 39, 40, 41, 99, 100, 101, 199, 200, 201, 1_199, 1_200, 1_201, 11_999, 12_000, 12_001,
+    59_999, 60_000, 60_001, 60_002, 61_200, 0x8000_0000, 0xFFFF_FFFF,
+];
+
+/// 58 values of 255.
+const HIGHEST_TOTAL: u32 = 14_790;
+
+/// How many frames are on their way at most.
+const LONGEST_LINE: usize = 40;
+
+/// Makes events, steered by a car of its own.
+struct Generator {
+    random: Random,
+    config: Config,
+    car: Car,
+    stations: [Network; 13],
+    mood: Mood,
+    /// The stations' frames that are on their way, also those of earlier runs.
+    line: Vec<Message>,
+    /// The last reading sent, also one that was refused.
+    clock: u32,
+}
+
+/// `car-generate SEED EVENTS`.
+pub fn generate(seed: u64, events: u32, script: &mut impl Write) -> io::Result<()> {
+    let mut generator = Generator::new(Random::new(seed));
+    let config = generator.written_config();
+    write_head(script, &config, events)?;
+    for _ in 0..events {
+        let event = generator.event();
+        if let Ok((_, octets)) = event.happen(&mut generator.car) {
+            generator.hear(&octets);
+        }
+        event.write(script)?;
+    }
+    Ok(())
+}
+
+impl Generator {
+    fn new(mut random: Random) -> Generator {
+        let any = random.below(256) as u32;
+        let reference = random.pick(&[0, 0, 26, 26, 26, any, 1, 235, 236, 245, 246, 255], any);
+        let config = Config { car: random.unicast(1), reference };
+        let stations = std::array::from_fn(|place| {
+            let mut nid = random.octets::<7>();
+            nid[6] = random.pick(&[0, nid[6] & 0x3F, 0x3F], 0);
+            let station = random.unicast(0xA0 + place as u8);
+            Network { station, nid: Nid(nid), nmk: Nmk(random.octets()) }
+        });
+        let (car, _) = Car::configure(config);
+        let mood = Mood {
+            stations: 3,
+            pace: 40,
+            limits: 5,
+            damage: 5,
+            lost: 5,
+            early: 5,
+            silence: Silence::Never,
+            totals: (0, HIGHEST_TOTAL),
+            links: true,
+        };
+        Generator { random, config, car, stations, mood, line: Vec::new(), clock: 0 }
+    }
+
+    /// The configuration that goes into the script: now and then a bad one.
+    fn written_config(&mut self) -> Config {
+        let mut config = self.config;
+        if self.random.chance(6) {
+            let any = self.random.next() as u32;
+            match self.random.below(7) {
+                0 => config.car.0[0] |= 1,
+                1 => config.car = Address([0; 6]),
+                2 => config.car = Address::BROADCAST,
+                3 => config.reference = 256,
+                4 => config.reference += 256,
+                5 => config.reference = any | 0x0001_0000,
+                _ => config.reference = u32::MAX,
+            }
+        }
+        config
+    }
+
+    fn event(&mut self) -> Event {
+        match (self.car.state, self.random.below(1000)) {
+            (State::Idle, 0..=499) => self.start(),
+            (State::Idle, 500..=649) => self.frame(),
+            (State::Idle, 650..=799) => self.tick(),
+            (State::Sounding { .. }, 0..=699) if self.line.len() > 2 => self.frame(),
+            (State::Sounding { .. }, 0..=479) => self.frame(),
+            (State::Sounding { .. }, 480..=959) => self.tick(),
+            (State::Joining { .. }, 0..=349) => self.frame(),
+            (State::Joining { .. }, 350..=699) => self.tick(),
+            (State::Joining { .. }, 700..=799) if self.mood.links => Event::LinkUp,
+            (State::Matched { .. }, 0..=299) => self.frame(),
+            (State::Matched { .. }, 300..=549) => self.tick(),
+            (State::Matched { .. }, 550..=649) => Event::Terminate,
+            (State::Asking { .. } | State::Confirmed { .. }, 0..=349) => self.frame(),
+            (State::Asking { .. } | State::Confirmed { .. }, 350..=899) => self.tick(),
+            (State::Requesting { .. }, 0..=499) => self.frame(),
+            (State::Requesting { .. }, 500..=899) => self.tick(),
+            _ => match self.random.below(100) {
+                0..=11 => Event::Terminate,
+                12..=39 => self.start(),
+                40..=69 => Event::LinkUp,
+                _ => Event::Query,
+            },
+        }
+    }
+
+    /// A start, mostly of a new run; where it is accepted, a new mood.
+    fn start(&mut self) -> Event {
+        let far = (self.random.next() as u32, self.random.below(3000) as u32);
+        self.clock = self.random.pick(&[self.clock, far.0, far.1, 0u32.wrapping_sub(far.1)], 0);
+        if self.car.state == State::Idle {
+            self.mood = self.any_mood();
+        }
+        let run = match self.random.below(20) {
+            0 | 1 => self.car.run,
+            2 => RunId([0; 8]),
+            _ => RunId(self.random.octets()),
+        };
+        let random = self.random.octets();
+        Event::Start { run, random, reading: self.clock, room: self.room() }
+    }
+
+    fn any_mood(&mut self) -> Mood {
+        let [found, potentially] = self.config.limits();
+        let totals = [
+            (0, HIGHEST_TOTAL),
+            (0, 0),
+            (0, found - 1),
+            (found, potentially - 1),
+            (potentially, HIGHEST_TOTAL),
+            (found - 1, found + 1),
+            (found - 1, found - 1),
+            (found, found),
+            (potentially - 1, potentially + 1),
+            (potentially - 1, potentially - 1),
+            (potentially, potentially),
+        ];
+        let silence = match self.random.below(20) {
+            0 => Silence::Confirming,
+            1 => Silence::Reporting,
+            2..=4 => Silence::Matching,
+            _ => Silence::Never,
+        };
+        Mood {
+            stations: self.random.pick(&[1, 2, 3, 5, 10, 12, 13, 13], 3),
+            pace: self.random.pick(&[5, 41, 60, 80, 120, 200], 40),
+            limits: self.random.pick(&[1, 2, 5, 25], 2),
+            damage: self.random.pick(&[0, 5, 10, 20], 5),
+            lost: self.random.pick(&[0, 0, 5, 30], 5),
+            early: self.random.pick(&[0, 2, 10, 30], 5),
+            silence,
+            totals: self.random.pick(&totals, (0, HIGHEST_TOTAL)),
+            links: self.random.chance(60),
+        }
+    }
+
+    fn tick(&mut self) -> Event {
+        let elapsed = match self.car.state {
+            State::Idle | State::Matched { .. } if self.random.chance(60) => {
+                let (far, limit) = (self.random.below(60_002) as u32, self.limit());
+                self.random.pick(&[far, limit], 0)
+            }
+            State::Sounding { sent: 13, .. } if self.line.len() < 3 && self.random.chance(20) => {
+                self.limit()
+            }
+            State::Requesting { .. } | State::Joining { .. } if self.random.chance(25) => {
+                self.limit()
+            }
+            State::Requesting { .. } | State::Joining { .. } if self.random.chance(5) => {
+                60_000 + self.random.below(3) as u32
+            }
+            _ if self.random.chance(self.mood.limits) => self.limit(),
+            _ if self.random.chance(1) => 60_000 + self.random.below(3) as u32,
+            _ if self.random.chance(15) => 40,
+            _ => self.random.below(self.mood.pace + 1) as u32,
+        };
+        let from = if self.random.chance(6) { self.clock } else { self.car.reading };
+        self.clock = from.wrapping_add(elapsed);
+        Event::Tick { reading: self.clock, room: self.room() }
+    }
+
+    /// An elapsed time at a limit: a remaining time of the car, or one of the rules'.
+    fn limit(&mut self) -> u32 {
+        if self.random.chance(15) {
+            return self.random.pick(&LIMITS, 0);
+        }
+        let left = match self.car.state {
+            State::Idle | State::Matched { .. } => 60_000,
+            State::Asking { left, .. }
+            | State::Confirmed { left }
+            | State::Requesting { left, .. }
+            | State::Joining { left, .. } => left,
+            State::Sounding { sent: 13, left, .. } => left,
+            State::Sounding { next, left, .. } => {
+                self.random.pick(&[next, next, next, next, left], left)
+            }
+        };
+        (left + self.random.below(3) as u32).saturating_sub(1)
+    }
+
+    /// Mostly enough; now and then short.
+    fn room(&mut self) -> usize {
+        match self.random.below(100) {
+            0 => 0,
+            1 => 84,
+            2 => self.random.below(85),
+            3..=9 => 86 + self.random.below(4011),
+            10 | 11 => 4096,
+            _ => 85,
+        }
+    }
+
+    /// What the stations on the line say to the car's frame; some of it gets lost.
+    fn hear(&mut self, octets: &[u8]) {
+        let Ok(Message { destination, body, .. }) = Message::read(octets) else { return };
+        let silence = self.mood.silence;
+        for (place, Network { station, nid, nmk }) in self.stations.into_iter().enumerate() {
+            let is_asked = station == destination;
+            if place >= self.mood.stations && !is_asked {
+                continue;
+            }
+            let reply = match body {
+                Body::ParmReq { run } if silence > Silence::Confirming => Body::ParmCnf { run },
+                Body::MnbcSound { run, count, .. } if silence > Silence::Reporting => {
+                    if count > 0 && !self.random.chance(self.mood.early) {
+                        continue;
+                    }
+                    self.report(run)
+                }
+                Body::AttenCharRsp { run } if is_asked && self.random.chance(15) => {
+                    self.report(run)
+                }
+                Body::MatchReq { run } if is_asked && silence > Silence::Matching => {
+                    Body::MatchCnf { run, nid, nmk }
+                }
+                Body::MatchReq { run } if !is_asked && self.random.chance(10) => {
+                    Body::MatchCnf { run, nid, nmk }
+                }
+                _ => continue,
+            };
+            if !self.random.chance(self.mood.lost) {
+                self.line.push(reply.send(station, self.config.car));
+            }
+        }
+        let over = self.line.len().saturating_sub(LONGEST_LINE);
+        self.line.drain(..over);
+    }
+
+    /// An ATTEN_CHAR.IND with a total as the mood has it.
+    fn report(&mut self, run: RunId) -> Body {
+        let sounds = match self.random.below(10) {
+            0 => 0,
+            1 => self.random.next() as u8,
+            _ => 10,
+        };
+        let any = self.random.chance(5);
+        let (least, greatest) = if any { (0, HIGHEST_TOTAL) } else { self.mood.totals };
+        let wide = greatest.saturating_sub(least) as usize;
+        let total = least + self.random.below(wide + 1) as u32;
+        Body::AttenChar { run, sounds, groups: self.groups(total.min(HIGHEST_TOTAL) as usize) }
+    }
+
+    /// Group values with that total: even ones, or shifted about.
+    fn groups(&mut self, total: usize) -> Groups {
+        let even = |group| total / 58 + usize::from(group < total % 58);
+        let mut groups: Groups = std::array::from_fn(|group| even(group) as u8);
+        for _ in 0..self.random.pick(&[0, 5, 200], 0) {
+            let (from, to) = (self.random.below(58), self.random.below(58));
+            let most = groups[from].min(u8::MAX - groups[to]);
+            let moved = self.random.below(usize::from(most) + 1) as u8;
+            groups[from] -= moved;
+            groups[to] += moved;
+        }
+        groups
+    }
+
+    fn frame(&mut self) -> Event {
+        let message = match self.random.below(100) {
+            0..=63 => self.next_message(),
+            64..=81 => self.any_message(),
+            82..=88 => self.stray_message(),
+            _ => self.station_only_message(),
+        };
+        let ours = [self.config.car, self.station().station];
+        let octets = self.random.frame(&message, self.mood.damage, ours);
+        Event::Frame { octets, room: self.room() }
+    }
+
+    /// A frame that was on its way, the newest, the oldest or any; now and then it comes again.
+    fn next_message(&mut self) -> Message {
+        let (newest, any) = (self.line.len().saturating_sub(1), self.random.below(self.line.len()));
+        let place = self.random.pick(&[newest, newest, 0, any], 0);
+        match self.line.get(place).copied() {
+            Some(message) if self.random.chance(10) => message,
+            Some(_) => self.line.remove(place),
+            None => self.any_message(),
+        }
+    }
+
+    /// One of the stations, mostly the chosen one where there is one.
+    fn station(&mut self) -> Network {
+        let place = self.random.below(self.stations.len());
+        let chosen = match self.car.state {
+            State::Requesting { station, .. } => Some(station),
+            State::Joining { network, .. } | State::Matched { network } => Some(network.station),
+            _ => None,
+        };
+        let mut stations = self.stations.into_iter();
+        match stations.find(|network| Some(network.station) == chosen) {
+            Some(network) if self.random.chance(60) => network,
+            _ => self.stations[place],
+        }
+    }
+
+    /// Any message to the car, of its run or now and then another; where the stations stay silent,
+    /// always another.
+    fn any_message(&mut self) -> Message {
+        let Network { station, nid, nmk } = self.station();
+        let (kind, silence) = (self.random.below(3), self.mood.silence);
+        let silent = [Silence::Confirming, Silence::Reporting, Silence::Matching];
+        let is_silent = silent.get(kind).is_some_and(|from| silence <= *from);
+        let run = match self.random.chance(25) || is_silent {
+            true => RunId(self.random.octets()),
+            false => self.car.run,
+        };
+        let body = match kind {
+            0 => Body::ParmCnf { run },
+            1 => self.report(run),
+            _ => Body::MatchCnf { run, nid, nmk },
+        };
+        body.send(station, self.config.car)
+    }
+
+    /// A message to a car that isn't for this one: to another, or from ourselves.
+    fn stray_message(&mut self) -> Message {
+        let (message, us) = (self.any_message(), self.config.car);
+        let other = self.random.unicast(0xCC);
+        let ends = [(message.source, other), (us, us), (us, other), (us, message.source)];
+        let (source, destination) = self.random.pick(&ends, ends[0]);
+        Message { source, destination, ..message }
+    }
+
+    /// A message that only a station receives, from any end to any end.
+    fn station_only_message(&mut self) -> Message {
+        let (us, station, other) =
+            (self.config.car, self.station().station, self.random.unicast(0xCC));
+        let source = self.random.pick(&[other, station, us], other);
+        let destination = self.random.pick(&[us, other, station], us);
+        let (run, groups) = (self.car.run, [self.random.next() as u8; 58]);
+        match self.random.below(6) {
+            0 => Body::ParmReq { run }.broadcast(source),
+            1 => Body::StartAttenChar { run }.broadcast(source),
+            2 => Body::MnbcSound { run, count: 9, random: self.car.random }.broadcast(source),
+            3 => Body::AttenCharRsp { run }.send(source, destination),
+            4 => Body::MatchReq { run }.send(source, destination),
+            _ => Body::AttenProfile { car: us, groups }.send(source, destination),
+        }
+    }
+}
