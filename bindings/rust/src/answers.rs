@@ -1,5 +1,6 @@
 //! What an accepted event gives.
 
+use crate::raw::Answered;
 use crate::{Indication, Refusal};
 use core::fmt;
 use core::iter::FusedIterator;
@@ -30,10 +31,6 @@ pub struct Done<'a> {
 }
 
 impl<'a> Done<'a> {
-    pub(crate) fn new(octets: &'a [u8], frames: usize, indication: Option<Indication>) -> Done<'a> {
-        Done { octets, frames, indication }
-    }
-
     /// The frames to send, one by one.
     pub fn frames(&self) -> Frames<'a> {
         Frames { octets: self.octets, left: self.frames }
@@ -44,6 +41,21 @@ impl<'a> Done<'a> {
     pub fn octets(&self) -> &'a [u8] {
         self.octets
     }
+}
+
+/// The refusal of a number; 0 is none.
+pub(crate) fn accepted(refusal: u32) -> Result<(), Refusal> {
+    Refusal::try_from(refusal).map_or(Ok(()), Err)
+}
+
+/// An answer of the library, whose frames stand from the output's first octet.
+pub(crate) fn answer<'a>(answered: &Answered, out: &'a [u8]) -> Answer<'a> {
+    accepted(answered.refusal)?;
+    Ok(Done {
+        octets: out.get(..answered.octets as usize).unwrap_or_default(),
+        frames: answered.frames as usize,
+        indication: Indication::try_from(answered.indication).ok(),
+    })
 }
 
 /// Shows how many octets there are and not which: the NMK may be among them.

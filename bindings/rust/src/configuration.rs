@@ -1,7 +1,7 @@
 //! What a station is given before its first event.
 
+use crate::octets::wipe;
 use core::fmt;
-use core::sync::atomic::{compiler_fence, Ordering};
 
 /// What a station is given before its first event; octets as they stand in frames.
 ///
@@ -29,14 +29,9 @@ pub struct Configuration {
     pub nmk: [u8; 16],
 }
 
-/// Wipes the NMK by writes that the compiler leaves in.
 impl Drop for Configuration {
     fn drop(&mut self) {
-        for octet in &mut self.nmk {
-            // SAFETY: the reference is valid for a write.
-            unsafe { core::ptr::write_volatile(octet, 0) };
-        }
-        compiler_fence(Ordering::SeqCst);
+        wipe(&mut self.nmk);
     }
 }
 
@@ -52,20 +47,17 @@ impl fmt::Debug for Configuration {
 #[cfg(test)]
 mod tests {
     use super::Configuration;
-    use core::mem::MaybeUninit;
+    use crate::octets::after_drop;
     use core::ptr::addr_of;
 
     #[test]
-    fn a_dropped_key_is_wiped() {
+    fn a_dropped_configuration_is_wiped() {
         let configuration =
             Configuration { address: [2; 6], modem: [4; 6], nid: [6; 7], nmk: [0x4B; 16] };
-        let mut place = MaybeUninit::new(configuration);
-        let dropped = place.as_mut_ptr();
-        // SAFETY: the place holds a configuration that is dropped once; its octets stay octets.
-        let nmk = unsafe {
-            dropped.drop_in_place();
+        // SAFETY: octets stay octets.
+        let nmk = after_drop(configuration, |dropped| unsafe {
             addr_of!((*dropped).nmk).read_volatile()
-        };
+        });
         assert_eq!(nmk, [0; 16]);
     }
 }

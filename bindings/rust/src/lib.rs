@@ -1,10 +1,13 @@
-//! The charging station's side of SLAC matching (ISO 15118-3): a safe wrapper of the proved
-//! library.
+//! Both ends of SLAC matching (ISO 15118-3), the charging station's and the car's: a safe wrapper
+//! of the proved library.
 //!
-//! A driver keeps one [`Station`] for each outlet and hands it every event: frames from the modem,
-//! clock readings, pilot states, terminate and link up. Every call comes back, for any octets, any
-//! length and any number, with what is to be done or a [`Refusal`]; a refused call changes neither
-//! station nor output, and a driver may well ignore it.
+//! A station's driver keeps one [`Station`] for each outlet and hands it every event: frames from
+//! the modem, clock readings, pilot states, terminate and link up. A car's driver keeps one
+//! [`Car`], starts it, and hands it frames, clock readings, terminate and link up. Every call comes
+//! back, for any octets, any length and any number, with what is to be done or a [`Refusal`]; a
+//! refused call changes neither station, car nor output, and a driver may well ignore it.
+//!
+//! # The station
 //!
 //! ```
 //! use lahzavar::{Configuration, Indication, Pilot, State, Station, LEAST_OUTPUT};
@@ -38,20 +41,49 @@
 //! # Ok::<(), lahzavar::Refusal>(())
 //! ```
 //!
+//! # The car
+//!
+//! ```
+//! use lahzavar::{Car, CarState, Indication, CAR_LEAST_OUTPUT};
+//!
+//! let mut car = Car::new([2, 0, 0, 0, 0, 1], 0)?;
+//! let mut out = [0; CAR_LEAST_OUTPUT];
+//!
+//! // In a car both are random, and new at each start.
+//! let (run, random) = ([1, 2, 3, 4, 5, 6, 7, 8], [9; 16]);
+//! for request in car.start(run, random, 1000, &mut out)?.frames() {
+//!     assert_eq!(request[..6], [0xFF; 6]); // hand it to the modem: CM_SLAC_PARM.REQ
+//! }
+//! assert_eq!(car.state(), CarState::Asking);
+//!
+//! // Each frame from the modem goes to `car.frame`, and every 5 ms a reading to `car.tick`.
+//! let done = car.tick(1005, &mut out)?;
+//! match done.indication {
+//!     Some(Indication::KeyGiven) => {
+//!         let key = car.key()?; // hand its NID and NMK to the modem
+//!     }
+//!     Some(Indication::LinkEstablished) => {} // the answer to `car.link_up`
+//!     Some(Indication::NoLink | Indication::NotFound) => {} // start again
+//!     _ => assert_eq!(done.frames().len(), 0), // no station has answered yet
+//! }
+//! # Ok::<(), lahzavar::Refusal>(())
+//! ```
+//!
 //! # Memory and threads
 //!
 //! The crate is `no_std`, has no dependencies and allocates nothing; no call blocks. A station is a
-//! kilobyte of its owner's memory. It is [`Send`]: it may be handed to another thread. Its events
-//! take `&mut`, so that no two of them run on one station at the same time; on two stations they
-//! may.
+//! kilobyte of its owner's memory, a car less than a third of that. Both are [`Send`]: they may be
+//! handed to another thread. Their events take `&mut`, so that no two of them run on one station or
+//! car at the same time; on two they may.
 //!
 //! # The key
 //!
-//! A [`Station`] is wiped when it is dropped, and so is the NMK of a [`Configuration`]; neither is
-//! shown by `Debug`. Two copies are left to the caller: the output holds the NMK once a
-//! `CM_SLAC_MATCH.CNF` stands in it, and moving a station leaves its octets in the place that it
-//! left. A program that minds the latter gives its station a place first and then configures it
-//! there, with [`Station::configure`].
+//! A [`Station`] and a [`Car`] are wiped when they are dropped, and so is the NMK of a
+//! [`Configuration`] and of a [`Key`]; none of them is shown by `Debug`. Some copies are left to
+//! the caller: the `CM_SLAC_MATCH.CNF` that stands in a station's output, or was received by a car,
+//! holds the NMK, calls leave parts of it on the stack, and moving a station, a car or a key leaves
+//! its octets in the place that it left. A program that minds the last gives its station or car a
+//! place first and then configures it there, with [`Station::configure`] or [`Car::configure`].
 //!
 //! # Linking
 //!
@@ -70,14 +102,19 @@
 #![deny(missing_docs, unsafe_op_in_unsafe_fn)]
 
 mod answers;
+mod car;
 mod configuration;
+mod key;
 mod numbers;
+mod octets;
 mod raw;
 mod station;
 
 pub use answers::{Answer, Done, Frames};
+pub use car::Car;
 pub use configuration::Configuration;
-pub use numbers::{Indication, Pilot, Refusal, State, UnknownNumber};
+pub use key::Key;
+pub use numbers::{CarState, Indication, Pilot, Refusal, State, UnknownNumber};
 pub use station::Station;
 
 /// The most cars that are in matching at once.
@@ -88,24 +125,34 @@ pub const GROUPS: usize = 58;
 pub const REPORT_OCTETS: usize = 71 + GROUPS;
 /// The least room that [`Station::frame`] and [`Station::tick`] ask for: a report to every car.
 pub const LEAST_OUTPUT: usize = REPORT_OCTETS * RECORDS;
-/// The version of the library that this wrapper describes, 0.2.0: 65536 times its first number, 256
+/// The most stations whose reports a car keeps.
+pub const STATIONS: usize = 10;
+/// The least room that [`Car::start`], [`Car::frame`] and [`Car::tick`] ask for: a
+/// `CM_SLAC_MATCH.REQ`.
+pub const CAR_LEAST_OUTPUT: usize = 85;
+/// The version of the library that this wrapper describes, 0.3.0: 65536 times its first number, 256
 /// times its second, and its third.
-pub const VERSION: u32 = 256 * 2;
+pub const VERSION: u32 = 256 * 3;
 
 const WORDS: usize = 12 + 8 * RECORDS;
 const SUMS: usize = GROUPS * RECORDS;
+const CAR_WORDS: usize = 16 + 2 * STATIONS;
 
-/// Whether the library is the one that this wrapper describes; [`Station::new`] asks this too.
+/// Whether the library is the one that this wrapper describes; [`Station::new`] and [`Car::new`]
+/// ask this too.
 ///
 /// ```
 /// assert!(lahzavar::library_fits());
 /// ```
 #[must_use]
 pub fn library_fits() -> bool {
-    // SAFETY: these four take nothing and give a number.
-    let (version, sizes) = unsafe {
-        let sizes = [raw::lahzavar_words(), raw::lahzavar_sums(), raw::lahzavar_least_output()];
-        (raw::lahzavar_version(), sizes)
-    };
-    version == VERSION && sizes.map(|size| size as usize) == [WORDS, SUMS, LEAST_OUTPUT]
+    // SAFETY: these six take nothing and give a number.
+    unsafe {
+        raw::lahzavar_version() == VERSION
+            && raw::lahzavar_words() as usize == WORDS
+            && raw::lahzavar_sums() as usize == SUMS
+            && raw::lahzavar_least_output() as usize == LEAST_OUTPUT
+            && raw::lahzavar_words_of_car() as usize == CAR_WORDS
+            && raw::lahzavar_least_output_of_car() as usize == CAR_LEAST_OUTPUT
+    }
 }

@@ -46,15 +46,15 @@ pub enum Refusal {
     BadAddress,
     /// 6: another octet that is fixed, equal to one before, or limited.
     BadOctet,
-    /// 7: to another station, from another modem, or from ourselves.
+    /// 7: to another receiver, from another modem, or from ourselves.
     NotForUs,
-    /// 8: the station's state takes no such event.
+    /// 8: the state takes no such event.
     WrongState,
     /// 9: a new car after the end of admission.
     AdmissionClosed,
     /// 10: a new car while every record is held.
     RecordsFull,
-    /// 11: this car holds no record, or another run.
+    /// 11: this car holds no record, or another run; at a car: another run or station.
     NoRecord,
     /// 12: the car's record is in another phase.
     WrongPhase,
@@ -62,18 +62,25 @@ pub enum Refusal {
     BadSoundCount,
     /// 14: more than 60,000 ms since the last reading.
     TickGap,
-    /// 15: less room than [`LEAST_OUTPUT`](crate::LEAST_OUTPUT).
+    /// 15: less room than [`LEAST_OUTPUT`](crate::LEAST_OUTPUT), or
+    /// [`CAR_LEAST_OUTPUT`](crate::CAR_LEAST_OUTPUT).
     OutputTooShort,
-    /// 16: the station was badly configured, or wiped.
+    /// 16: the station or car was badly configured, or wiped.
     BadConfiguration,
     /// 17: a message that only a car receives.
     OnlyForCars,
+    /// 18: a report, while those of [`STATIONS`](crate::STATIONS) other stations are kept.
+    ReportsFull,
+    /// 19: a message that only a station receives.
+    OnlyForStations,
+    /// 20: a report of no sounds.
+    NoSounds,
     /// A number of a later library, which this wrapper does not know.
     Other(u32),
 }
 
 /// Every refusal that this wrapper knows, from number 1 on, with its sentence.
-const REFUSALS: [(Refusal, &str); 17] = [
+const REFUSALS: [(Refusal, &str); 20] = [
     (Refusal::TooShort, "the frame ends before its payload does"),
     (
         Refusal::BadHead,
@@ -86,17 +93,20 @@ const REFUSALS: [(Refusal, &str); 17] = [
         "the source, the destination or the profile's car is an address of the wrong kind",
     ),
     (Refusal::BadOctet, "an octet of the payload is not what the standard fixes"),
-    (Refusal::NotForUs, "the frame is for another station, from another modem, or from ourselves"),
-    (Refusal::WrongState, "the station's state takes no such event"),
+    (Refusal::NotForUs, "the frame is for another receiver, from another modem, or from ourselves"),
+    (Refusal::WrongState, "the state takes no such event"),
     (Refusal::AdmissionClosed, "a new car asks after the end of admission"),
     (Refusal::RecordsFull, "a new car asks while other cars hold every record"),
-    (Refusal::NoRecord, "the car holds no record, or one of another run"),
+    (Refusal::NoRecord, "there is no such record, run or chosen station"),
     (Refusal::WrongPhase, "the car's record is in another phase"),
     (Refusal::BadSoundCount, "the sound's count is too high, or was heard already"),
     (Refusal::TickGap, "the clock is more than 60 seconds past the last reading that was taken"),
     (Refusal::OutputTooShort, "the output is too short"),
     (Refusal::BadConfiguration, "the configuration is bad, or there is none"),
     (Refusal::OnlyForCars, "only a car receives this message"),
+    (Refusal::ReportsFull, "the reports of as many other stations are kept as there is room for"),
+    (Refusal::OnlyForStations, "only a station receives this message"),
+    (Refusal::NoSounds, "the report tells of no sounds"),
 ];
 
 impl Refusal {
@@ -151,6 +161,35 @@ impl From<Refusal> for u32 {
     }
 }
 
+/// The numbers of an enum, there and back, and its words for a log.
+macro_rules! numbered {
+    ($kind:ident { $($variant:ident $words:literal)+ }) => {
+        /// The numbers of the variants, and no others.
+        impl TryFrom<u32> for $kind {
+            type Error = UnknownNumber;
+
+            fn try_from(number: u32) -> Result<$kind, UnknownNumber> {
+                let mut known = [$($kind::$variant),+].into_iter();
+                known.find(|one| *one as u32 == number).ok_or(UnknownNumber(number))
+            }
+        }
+
+        impl From<$kind> for u32 {
+            fn from(known: $kind) -> u32 {
+                known as u32
+            }
+        }
+
+        impl fmt::Display for $kind {
+            fn fmt(&self, f: &mut fmt::Formatter) -> fmt::Result {
+                f.write_str(match self {
+                    $($kind::$variant => $words,)+
+                })
+            }
+        }
+    };
+}
+
 /// What the charge controller is to be told.
 #[derive(Clone, Copy, Debug, PartialEq, Eq, Hash)]
 pub enum Indication {
@@ -158,35 +197,27 @@ pub enum Indication {
     NoLink = 1,
     /// 2: the car that is plugged in and the station have a link.
     LinkEstablished = 2,
+    /// 3, the car's alone: the least mean attenuation that a station reported, less the car's
+    /// reference, is below 10 dB; the car asks that station for its key.
+    Found = 3,
+    /// 4, the car's alone: it is from 10 to below 20 dB, and the car asks all the same. A driver
+    /// that wants a validation first does not send that frame, and terminates.
+    PotentiallyFound = 4,
+    /// 5, the car's alone: it is 20 dB or more, and the matching has ended.
+    NotFound = 5,
+    /// 6, the car's alone: the station has given its key, which [`Car::key`](crate::Car::key)
+    /// tells.
+    KeyGiven = 6,
 }
 
-impl fmt::Display for Indication {
-    fn fmt(&self, f: &mut fmt::Formatter) -> fmt::Result {
-        f.write_str(match self {
-            Indication::NoLink => "no link",
-            Indication::LinkEstablished => "link established",
-        })
-    }
-}
-
-/// 1 and 2; 0 is no indication.
-impl TryFrom<u32> for Indication {
-    type Error = UnknownNumber;
-
-    fn try_from(number: u32) -> Result<Indication, UnknownNumber> {
-        match number {
-            1 => Ok(Indication::NoLink),
-            2 => Ok(Indication::LinkEstablished),
-            _ => Err(UnknownNumber(number)),
-        }
-    }
-}
-
-impl From<Indication> for u32 {
-    fn from(indication: Indication) -> u32 {
-        indication as u32
-    }
-}
+numbered!(Indication {
+    NoLink "no link"
+    LinkEstablished "link established"
+    Found "found"
+    PotentiallyFound "potentially found"
+    NotFound "not found"
+    KeyGiven "key given"
+});
 
 /// The station's state.
 #[derive(Clone, Copy, Debug, PartialEq, Eq, Hash)]
@@ -201,37 +232,41 @@ pub enum State {
     Matched = 3,
 }
 
-impl fmt::Display for State {
-    fn fmt(&self, f: &mut fmt::Formatter) -> fmt::Result {
-        f.write_str(match self {
-            State::Unmatched => "unmatched",
-            State::Matching => "matching",
-            State::Joining => "joining",
-            State::Matched => "matched",
-        })
-    }
+numbered!(State {
+    Unmatched "unmatched"
+    Matching "matching"
+    Joining "joining"
+    Matched "matched"
+});
+
+/// The car's state.
+#[derive(Clone, Copy, Debug, PartialEq, Eq, Hash)]
+pub enum CarState {
+    /// 0: no matching was started, or it has failed or ended.
+    Idle = 0,
+    /// 1: the car asks for stations.
+    Asking = 1,
+    /// 2: a station has answered, and the sounds are about to begin.
+    Confirmed = 2,
+    /// 3: the car sends its sounds and gathers reports.
+    Sounding = 3,
+    /// 4: the car asks the chosen station for the key.
+    Requesting = 4,
+    /// 5: the car has the key, and its link is awaited.
+    Joining = 5,
+    /// 6: the link is established.
+    Matched = 6,
 }
 
-/// 0 to 3.
-impl TryFrom<u32> for State {
-    type Error = UnknownNumber;
-
-    fn try_from(number: u32) -> Result<State, UnknownNumber> {
-        match number {
-            0 => Ok(State::Unmatched),
-            1 => Ok(State::Matching),
-            2 => Ok(State::Joining),
-            3 => Ok(State::Matched),
-            _ => Err(UnknownNumber(number)),
-        }
-    }
-}
-
-impl From<State> for u32 {
-    fn from(state: State) -> u32 {
-        state as u32
-    }
-}
+numbered!(CarState {
+    Idle "idle"
+    Asking "asking"
+    Confirmed "confirmed"
+    Sounding "sounding"
+    Requesting "requesting"
+    Joining "joining"
+    Matched "matched"
+});
 
 /// The control pilot's state: a car is plugged in at B, C and D.
 #[derive(Clone, Copy, Debug, PartialEq, Eq, Hash)]
@@ -250,25 +285,4 @@ pub enum Pilot {
     F = 5,
 }
 
-/// 0 to 5 for A to F.
-impl TryFrom<u32> for Pilot {
-    type Error = UnknownNumber;
-
-    fn try_from(number: u32) -> Result<Pilot, UnknownNumber> {
-        match number {
-            0 => Ok(Pilot::A),
-            1 => Ok(Pilot::B),
-            2 => Ok(Pilot::C),
-            3 => Ok(Pilot::D),
-            4 => Ok(Pilot::E),
-            5 => Ok(Pilot::F),
-            _ => Err(UnknownNumber(number)),
-        }
-    }
-}
-
-impl From<Pilot> for u32 {
-    fn from(pilot: Pilot) -> u32 {
-        pilot as u32
-    }
-}
+numbered!(Pilot { A "A" B "B" C "C" D "D" E "E" F "F" });

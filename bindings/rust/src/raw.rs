@@ -1,6 +1,6 @@
 //! What liblahzavar.a exports; include/lahzavar.h has the same in C.
 
-use crate::{SUMS, WORDS};
+use crate::{CAR_WORDS, SUMS, WORDS};
 
 /// A refusal or 0, an indication or 0, the frames reported and their octets.
 #[repr(C)]
@@ -18,8 +18,19 @@ pub struct Heard {
     pub sounds: u32,
 }
 
+/// A refusal or 0, the station's address, its NID, and the first and last eight octets of its NMK.
+#[repr(C)]
+pub struct KeyNumbers {
+    pub refusal: u32,
+    pub station: u64,
+    pub nid: u64,
+    pub nmk_first: u64,
+    pub nmk_last: u64,
+}
+
 pub type Words = [u64; WORDS];
 pub type Sums = [u16; SUMS];
+pub type CarWords = [u64; CAR_WORDS];
 
 extern "C" {
     pub fn lahzavar_configure(
@@ -58,4 +69,34 @@ extern "C" {
     pub fn lahzavar_words() -> u32;
     pub fn lahzavar_sums() -> u32;
     pub fn lahzavar_least_output() -> u32;
+    pub fn lahzavar_configure_car(words: &mut CarWords, address: u64, reference: u32) -> Answered;
+    pub fn lahzavar_start_car(
+        words: &mut CarWords,
+        run: u64,
+        random_first: u64,
+        random_last: u64,
+        reading: u32,
+        out: *mut u8,
+        room: usize,
+    ) -> Answered;
+    pub fn lahzavar_frame_car(
+        words: &mut CarWords,
+        octets: *const u8,
+        length: usize,
+        out: *mut u8,
+        room: usize,
+    ) -> Answered;
+    pub fn lahzavar_tick_car(
+        words: &mut CarWords,
+        reading: u32,
+        out: *mut u8,
+        room: usize,
+    ) -> Answered;
+    pub fn lahzavar_link_up_car(words: &mut CarWords) -> Answered;
+    pub fn lahzavar_terminate_car(words: &mut CarWords) -> Answered;
+    pub fn lahzavar_key_of_car(words: &CarWords) -> KeyNumbers;
+    pub fn lahzavar_state_of_car(words: &CarWords) -> u32;
+    pub fn lahzavar_wipe_car(words: &mut CarWords);
+    pub fn lahzavar_words_of_car() -> u32;
+    pub fn lahzavar_least_output_of_car() -> u32;
 }

@@ -1,8 +1,9 @@
 //! The station.
 
-use crate::raw::{self, Answered, Sums, Words};
-use crate::{library_fits, Answer, Configuration, Done, Indication, Pilot, Refusal, State};
-use crate::{SUMS, WORDS};
+use crate::answers::{accepted, answer};
+use crate::octets::{halves, number};
+use crate::raw::{self, Sums, Words};
+use crate::{library_fits, Answer, Configuration, Pilot, Refusal, State, SUMS, WORDS};
 use core::fmt;
 
 /// A station: plain memory of its own, in which the NMK stands too. It is wiped on drop.
@@ -49,7 +50,7 @@ impl Station {
         let Configuration { address, modem, nid, nmk } = configuration;
         let (address, modem) = (number(address), number(modem));
         let nid = nid.iter().rev().fold(0, |number, octet| number << 8 | u64::from(*octet));
-        let (first, last) = (number(&nmk[..8]), number(&nmk[8..]));
+        let (first, last) = halves(nmk);
         let Station { words, sums } = self;
         // SAFETY: both arrays are ours and of the library's lengths.
         let answered =
@@ -82,7 +83,7 @@ impl Station {
     ///
     /// # Errors
     ///
-    /// Any refusal but [`Refusal::TickGap`]; station and output are as they were.
+    /// Any refusal from 1 to 17 but [`Refusal::TickGap`]; station and output are as they were.
     pub fn frame<'a>(&mut self, octets: &[u8], out: &'a mut [u8]) -> Answer<'a> {
         let Station { words, sums } = self;
         // SAFETY: both arrays are ours and of the library's lengths; the slices are lent whole, and
@@ -210,28 +211,10 @@ impl fmt::Debug for Station {
     }
 }
 
-/// The number that octets stand for, the first one most significant.
-fn number(octets: &[u8]) -> u64 {
-    octets.iter().fold(0, |number, octet| number << 8 | u64::from(*octet))
-}
-
-/// The refusal of a number; 0 is none.
-fn accepted(refusal: u32) -> Result<(), Refusal> {
-    Refusal::try_from(refusal).map_or(Ok(()), Err)
-}
-
-/// An answer of the library, whose frames stand from the output's first octet.
-fn answer<'a>(answered: &Answered, out: &'a [u8]) -> Answer<'a> {
-    accepted(answered.refusal)?;
-    let octets = out.get(..answered.octets as usize).unwrap_or_default();
-    let indication = Indication::try_from(answered.indication).ok();
-    Ok(Done::new(octets, answered.frames as usize, indication))
-}
-
 #[cfg(test)]
 mod tests {
     use super::{Configuration, Pilot, Station, SUMS, WORDS};
-    use core::mem::MaybeUninit;
+    use crate::octets::after_drop;
     use core::ptr::addr_of;
 
     #[test]
@@ -241,13 +224,10 @@ mod tests {
         let mut station = Station::new(&configuration).unwrap();
         assert!(station.pilot(Pilot::B, 5).is_ok());
         assert!(station.words.contains(&0x4B4B_4B4B_4B4B_4B4B));
-        let mut place = MaybeUninit::new(station);
-        let dropped = place.as_mut_ptr();
-        // SAFETY: the place holds a station that is dropped once; its numbers stay numbers.
-        let (words, sums) = unsafe {
-            dropped.drop_in_place();
+        // SAFETY: numbers stay numbers.
+        let held = after_drop(station, |dropped| unsafe {
             (addr_of!((*dropped).words).read_volatile(), addr_of!((*dropped).sums).read_volatile())
-        };
-        assert_eq!((words, sums), ([0; WORDS], [0; SUMS]));
+        });
+        assert_eq!(held, ([0; WORDS], [0; SUMS]));
     }
 }

@@ -1,10 +1,9 @@
-//! The wrapper's calls against the library.
+//! The calls on a station against the library.
 
-#[path = "../../../examples/rust/src/cars.rs"]
-#[allow(dead_code, reason = "the example uses more of it")]
-mod cars;
+#[path = "../../../examples/rust/src/frames.rs"]
+mod frames;
 
-use cars::{Address, Car};
+use frames::{Address, Car};
 use lahzavar::{Answer, Configuration, Indication, Pilot, Refusal, State, Station};
 use lahzavar::{LEAST_OUTPUT, RECORDS, REPORT_OCTETS};
 
@@ -51,7 +50,7 @@ impl Bench {
         assert!(nothing(self.hear(&car.start())));
         for count in 0..profiles {
             assert!(nothing(self.hear(&car.sound(count))));
-            let profile = cars::profile(MODEM, STATION, car.address, 10 + count);
+            let profile = frames::profile(MODEM, STATION, car.address, 10 + count);
             assert!(self.hear(&profile).is_ok());
         }
     }
@@ -63,12 +62,12 @@ fn a_whole_matching() {
     bench.sounded(&car, 9);
     assert_eq!(bench.station.sounds_heard(car.address), Ok(9));
     assert!(nothing(bench.hear(&car.sound(9))));
-    let report = bench.replies(&cars::profile(MODEM, STATION, car.address, 21));
+    let report = bench.replies(&frames::profile(MODEM, STATION, car.address, 21));
     assert_eq!((report.len(), report[0].len()), (1, REPORT_OCTETS));
     assert_eq!((report[0][19 + 50], report[0][19 + 52]), (10, 14));
     assert!(nothing(bench.hear(&car.rsp(STATION))));
     let confirmed = bench.replies(&car.match_req(STATION));
-    assert_eq!(cars::message_type(confirmed[0]), cars::MATCH_CNF);
+    assert_eq!(frames::message_type(confirmed[0]), frames::MATCH_CNF);
     assert_eq!(confirmed[0][19 + 66..19 + 73], [1, 2, 3, 4, 5, 6, 7]);
     assert_eq!(confirmed[0][19 + 74..], [0x4B; 16]);
     assert_eq!((bench.station.state(), bench.station.records_held()), (State::Joining, 0));

@@ -1,6 +1,6 @@
 //! The numbers and sentences of refusals, indications, states and pilots.
 
-use lahzavar::{Indication, Pilot, Refusal, State, UnknownNumber};
+use lahzavar::{CarState, Indication, Pilot, Refusal, State, UnknownNumber};
 use std::collections::HashSet;
 use std::fmt::Debug;
 
@@ -20,40 +20,49 @@ where
 
 #[test]
 fn indications_states_and_pilots() {
-    numbers::<Indication>(1, 2);
+    numbers::<Indication>(1, 6);
     numbers::<State>(0, 4);
+    numbers::<CarState>(0, 7);
     numbers::<Pilot>(0, 6);
 }
 
 #[test]
 fn every_refusal_has_its_number() {
     assert_eq!(Refusal::try_from(0), Err(UnknownNumber(0)));
-    for number in (1..=18).chain([u32::MAX]) {
+    for number in (1..=21).chain([u32::MAX]) {
         let refusal = Refusal::try_from(number).unwrap();
         assert_eq!((refusal.number(), u32::from(refusal)), (number, number));
-        assert_eq!(matches!(refusal, Refusal::Other(_)), number > 17);
+        assert_eq!(matches!(refusal, Refusal::Other(_)), number > 20);
     }
 }
 
 #[test]
 fn every_refusal_has_its_sentence() {
     let texts: HashSet<&str> =
-        (1..=18).map(|number| Refusal::try_from(number).unwrap().text()).collect();
-    assert_eq!(texts.len(), 18);
-    assert_eq!(Refusal::Other(18).text(), Refusal::Other(99).text());
+        (1..=21).map(|number| Refusal::try_from(number).unwrap().text()).collect();
+    assert_eq!(texts.len(), 21);
+    assert_eq!(Refusal::Other(21).text(), Refusal::Other(99).text());
     assert_eq!(
         Refusal::NotForUs.to_string(),
-        "refused with 7: the frame is for another station, from another modem, or from ourselves"
+        "refused with 7: the frame is for another receiver, from another modem, or from ourselves"
     );
+}
+
+/// The words of the kind's numbers, in their order.
+fn words<T: TryFrom<u32> + ToString>() -> Vec<String> {
+    (0..10).filter_map(|number| T::try_from(number).ok()).map(|known| known.to_string()).collect()
 }
 
 #[test]
 fn words_for_a_log() {
-    assert_eq!(Indication::NoLink.to_string(), "no link");
-    assert_eq!(Indication::LinkEstablished.to_string(), "link established");
-    let states = [State::Unmatched, State::Matching, State::Joining, State::Matched];
     assert_eq!(
-        states.map(|state| state.to_string()),
-        ["unmatched", "matching", "joining", "matched"]
+        words::<Indication>(),
+        ["no link", "link established", "found", "potentially found", "not found", "key given"]
     );
+    assert_eq!(words::<State>(), ["unmatched", "matching", "joining", "matched"]);
+    assert_eq!(
+        words::<CarState>(),
+        ["idle", "asking", "confirmed", "sounding", "requesting", "joining", "matched"]
+    );
+    assert_eq!(words::<Pilot>(), ["A", "B", "C", "D", "E", "F"]);
 }

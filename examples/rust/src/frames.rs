@@ -1,11 +1,14 @@
 //! The frames that cars and the modem send to a station; a driver needs none of this.
 
+#![allow(dead_code, reason = "each program uses a part of it")]
+
 use lahzavar::GROUPS;
 
 pub type Address = [u8; 6];
 
 pub const PARM_CNF: u16 = 0x6065;
 pub const ATTEN_CHAR_IND: u16 = 0x606E;
+pub const SOUND_IND: u16 = 0x6076;
 pub const MATCH_CNF: u16 = 0x607D;
 
 const BROADCAST: Address = [0xFF; 6];
@@ -57,7 +60,7 @@ impl Car {
 
     pub fn sound(&self, count: u8) -> Vec<u8> {
         let payload: &[&[u8]] = &[&[0; 19], &[count], &self.run, &[0; 8], &[count; 16]];
-        frame(BROADCAST, self.address, 0x6076, payload)
+        frame(BROADCAST, self.address, SOUND_IND, payload)
     }
 
     pub fn rsp(&self, station: Address) -> Vec<u8> {

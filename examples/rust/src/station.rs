@@ -1,11 +1,11 @@
-//! A driver loop: interrupts put frames, clock readings and pilot states into a small queue; the
-//! loop takes them out one by one, hands them to the station, and puts the replies into a send
-//! queue. Here a thread with two simulated cars stands in for the interrupts and the line: one car
-//! matches with this station, the other is heard as well but matches with the next station.
+//! A station's driver loop: interrupts put frames, clock readings and pilot states into a small
+//! queue; the loop takes them out one by one, hands them to the station, and puts the replies into a
+//! send queue. Here a thread with two simulated cars stands in for the interrupts and the line: one
+//! car matches with this station, the other is heard as well but matches with the next station.
 
-mod cars;
+mod frames;
 
-use cars::{Address, Car};
+use frames::{Address, Car};
 use lahzavar::{Answer, Configuration, Indication, Pilot, Refusal, State, Station, LEAST_OUTPUT};
 use std::collections::BTreeMap;
 use std::process::ExitCode;
@@ -101,15 +101,15 @@ fn car_hears(frame: &[u8]) -> Vec<Event> {
     let ours = frame.starts_with(&OUR_CAR.address);
     let (car, chosen, attenuation) =
         if ours { (OUR_CAR, STATION, 12) } else { (NEIGHBOUR, NEXT_STATION, 55) };
-    let frames = match cars::message_type(frame) {
-        cars::PARM_CNF => {
+    let frames = match frames::message_type(frame) {
+        frames::PARM_CNF => {
             let sounds = (0..10).rev().flat_map(|count| {
-                [car.sound(count), cars::profile(MODEM, STATION, car.address, attenuation)]
+                [car.sound(count), frames::profile(MODEM, STATION, car.address, attenuation)]
             });
             [car.start()].into_iter().chain(sounds).collect()
         }
-        cars::ATTEN_CHAR_IND => vec![car.rsp(STATION), car.match_req(chosen)],
-        cars::MATCH_CNF => return vec![Event::LinkUp],
+        frames::ATTEN_CHAR_IND => vec![car.rsp(STATION), car.match_req(chosen)],
+        frames::MATCH_CNF => return vec![Event::LinkUp],
         _ => Vec::new(),
     };
     frames.into_iter().map(Event::Frame).collect()
