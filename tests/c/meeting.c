@@ -1,0 +1,540 @@
+/*
+ * Cars and stations of the library on one line, in simulated milliseconds. Each car is plugged into a bay of its own, and
+ * every station hears every car, each with another attenuation. Each scenario prints a line; the first event that it does
+ * not allow ends the program with 1. Usage: meeting SEEDS SEED [exchanged]
+ *
+ * A car that asks takes a record at every station that is plugged in and has one left, and holds it for more than ten
+ * seconds, unless the station's own car joins before. So a station has a record left for its own car where fewer than
+ * LAHZAVAR_RECORDS other cars have started since its plug-in: IN_GROUPS and ONE_BY_ONE keep to that. Where it does not hold,
+ * the own station may refuse a car that other stations answer.
+ *
+ * With "exchanged" the modems name the car of bay 2 in the profiles of bay 1's, and the other way round, so that stations
+ * report another car's sums.
+ */
+#include "car_frames.h"
+#include "lahzavar.h"
+#include "random.h"
+
+#include <stdio.h>
+#include <stdlib.h>
+
+#define BAYS 16u
+#define QUEUE 1024u /* frames under way, a power of two */
+#define NEVER UINT32_MAX
+#define VARIATION 3u        /* the most that a group's value is over the attenuation; all ones in binary */
+#define DELAY_MOST 3u       /* how long a frame is under way */
+#define GROUP_PERIOD 500u   /* from the plug-in of one group to that of the next */
+#define GROUP_START 300u    /* from plug-in to start, in a group */
+#define PAUSE_LEAST 400u    /* from a failed matching to the next start: TT_matching_rate, */
+#define PAUSE_MOST 20000u   /* or longer than a record is held, since a car that asks again sooner keeps its records */
+#define STATION_PAUSE 1000u /* from a station's "no link" to its new matching */
+#define LIMIT 600000u       /* a car that has not joined by then does not join */
+
+/* The fifth octet of an address; the last one is the bay. */
+enum side { CAR = 1, STATION = 2, MODEM = 3 };
+
+/* When cars are plugged in and start. */
+enum plugging {
+    IN_GROUPS,   /* as many in the same millisecond as a station has records, the next ones when these have started */
+    TOO_MANY,    /* the same with one more in a group */
+    ALL_AT_ONCE, /* all in the same millisecond */
+    ONE_BY_ONE,  /* at any time, but so that a station has a record left for its own car */
+    AT_ANY_TIME
+};
+
+/* Where every car has to end. */
+enum demand { OWN_BAY_AT_FIRST_START, OWN_BAY, ANY_BAY };
+
+/* What is tried; attenuations are in dB over the car's reference, from the least to the greatest. */
+struct scenario {
+    unsigned bays, own[2], others[2];
+    enum plugging plugging;
+    unsigned lost; /* per cent of the frames that would reach a receiver */
+    enum demand demand;
+};
+
+/* A bay: its station, the car that is plugged in there, and the times of what comes next. */
+struct bay {
+    struct lahzavar_station station;
+    struct lahzavar_car car;
+    uint8_t nid[7], nmk[16];
+    uint8_t attenuation[BAYS];         /* of the car, at each station */
+    uint32_t station_clock, car_clock; /* their readings at time 0 */
+    uint32_t plug_in_at, start_at, link_at, first_start;
+    unsigned starts, joined; /* how often the car has started, and the bay whose station it joins */
+};
+
+struct frame {
+    uint32_t due;
+    size_t length;
+    uint8_t octets[FRAME_MOST];
+};
+
+/* What came of all runs of a scenario. */
+struct tally {
+    unsigned matchings, wrong_bays, not_joined, starts, starts_least, starts_most;
+    uint32_t time_least, time_most;
+    uint64_t time;
+};
+
+/* One run of a scenario. */
+struct line {
+    const struct scenario *scenario;
+    char title[160];
+    struct tally tally;
+    uint64_t seed;
+    int exchanged;
+    unsigned reference, car_tick, station_tick, linked;
+    uint32_t now, delay;
+    struct bay bays[BAYS];
+    struct frame queue[QUEUE];
+    unsigned put, taken;
+};
+
+/* Ends the program where something does not hold of a bay. */
+static void require(const struct line *line, unsigned bay, int holds, const char *otherwise)
+{
+    if (!holds) {
+        fflush(stdout);
+        fprintf(stderr, "meeting: %s; seed %lu, reference %u, ticks of %u and %u ms, bay %u at %lu ms: %s\n", line->title,
+                (unsigned long)line->seed, line->reference, line->car_tick, line->station_tick, bay + 1,
+                (unsigned long)line->now, otherwise);
+        exit(1);
+    }
+}
+
+static void address_of(enum side side, unsigned bay, uint8_t address[6])
+{
+    memset(address, 0, 6);
+    address[0] = 2;
+    address[4] = (uint8_t)side;
+    address[5] = (uint8_t)bay;
+}
+
+static int is_address(const uint8_t *address, enum side side, unsigned bay)
+{
+    uint8_t expected[6];
+    address_of(side, bay, expected);
+    return memcmp(address, expected, 6) == 0;
+}
+
+static unsigned between(unsigned least, unsigned most)
+{
+    return least + (unsigned)below(most - least + 1);
+}
+
+static void fill(uint8_t *octets, size_t count)
+{
+    size_t at;
+    for (at = 0; at < count; at++) {
+        octets[at] = (uint8_t)below(256);
+    }
+}
+
+/* Both ends can read what the other one writes; they refuse what is for others, or comes at another time. */
+static void check_refusal(const struct line *line, unsigned bay, uint32_t refusal)
+{
+    int usual = refusal == LAHZAVAR_ACCEPTED || (refusal >= LAHZAVAR_NOT_FOR_US && refusal <= LAHZAVAR_WRONG_PHASE) ||
+                (refusal >= LAHZAVAR_ONLY_FOR_CARS && refusal <= LAHZAVAR_ONLY_FOR_STATIONS);
+    require(line, bay, usual, lahzavar_refusal_text(refusal));
+}
+
+/* Puts the frames of an answer on the line; a station's key goes to its own car, unless any bay will do. */
+static void send_frames(struct line *line, unsigned bay, struct lahzavar_answer answer, const uint8_t *out)
+{
+    size_t each = lahzavar_frame_octets(answer);
+    uint32_t number;
+    check_refusal(line, bay, answer.refusal);
+    for (number = 0; number < answer.frames; number++) {
+        struct frame *frame = &line->queue[line->put % QUEUE];
+        require(line, bay, line->put - line->taken < QUEUE && each <= FRAME_MOST, "the line has no room for a frame");
+        frame->due = line->now + line->delay;
+        frame->length = each;
+        memcpy(frame->octets, out + number * each, each);
+        line->put++;
+        if (frame_type(frame->octets, each) == CM_SLAC_MATCH_CNF && line->scenario->demand != ANY_BAY) {
+            require(line, bay, is_address(frame->octets, CAR, bay), "the station gives its key to another bay's car");
+        }
+    }
+}
+
+/* A station's matching that ends without a link begins anew. */
+static void obey_station(struct line *line, unsigned bay, struct lahzavar_answer answer, const uint8_t *out)
+{
+    send_frames(line, bay, answer, out);
+    if (answer.indication == LAHZAVAR_NO_LINK) {
+        require(line, bay, line->scenario->demand != OWN_BAY_AT_FIRST_START, "the station says no link");
+        line->bays[bay].plug_in_at = line->now + STATION_PAUSE;
+    }
+}
+
+/* Counts a car that was given a key. */
+static void count_matching(struct tally *tally, unsigned starts, uint32_t time, int wrong_bay)
+{
+    if (tally->matchings == 0 || starts < tally->starts_least) {
+        tally->starts_least = starts;
+    }
+    if (tally->matchings == 0 || time < tally->time_least) {
+        tally->time_least = time;
+    }
+    tally->starts_most = starts > tally->starts_most ? starts : tally->starts_most;
+    tally->time_most = time > tally->time_most ? time : tally->time_most;
+    tally->starts += starts;
+    tally->time += time;
+    tally->matchings++;
+    tally->wrong_bays += wrong_bay != 0;
+}
+
+/* A key that a car was given is that of the station it names, the own one unless any bay will do, which is joining. */
+static void take_key(struct line *line, unsigned bay)
+{
+    struct bay *own = &line->bays[bay];
+    struct lahzavar_key key = lahzavar_car_key(&own->car);
+    const struct bay *joined;
+    own->joined = key.station[5];
+    require(line, bay, key.refusal == LAHZAVAR_ACCEPTED, "the car has no key");
+    require(line, bay, own->joined < line->scenario->bays && is_address(key.station, STATION, own->joined),
+            "the car joins no station of the line");
+    require(line, bay, own->joined == bay || line->scenario->demand == ANY_BAY, "the car joins another bay's station");
+    joined = &line->bays[own->joined];
+    require(line, bay, memcmp(key.nid, joined->nid, 7) == 0 && memcmp(key.nmk, joined->nmk, 16) == 0,
+            "the car's key is not the station's");
+    require(line, bay, lahzavar_station_state(&joined->station) == LAHZAVAR_JOINING, "the station is not joining");
+    own->link_at = line->now + between(100, 3000);
+    count_matching(&line->tally, own->starts, line->now - own->first_start, own->joined != bay);
+}
+
+/* A car's matching that ends without a link begins anew after a pause; where first starts have to succeed all are found. */
+static void obey_car(struct line *line, unsigned bay, struct lahzavar_answer answer, const uint8_t *out)
+{
+    int first = line->scenario->demand == OWN_BAY_AT_FIRST_START;
+    send_frames(line, bay, answer, out);
+    require(line, bay, !first || answer.indication != LAHZAVAR_POTENTIALLY_FOUND, "the station is only potentially found");
+    if (answer.indication == LAHZAVAR_NO_LINK || answer.indication == LAHZAVAR_NOT_FOUND) {
+        require(line, bay, !first, "the car's first start fails");
+        line->bays[bay].start_at = line->now + between(PAUSE_LEAST, PAUSE_MOST);
+    }
+    if (answer.indication == LAHZAVAR_KEY_GIVEN) {
+        take_key(line, bay);
+    }
+}
+
+static void give_station(struct line *line, unsigned bay, const uint8_t *octets, size_t length)
+{
+    uint8_t out[LAHZAVAR_LEAST_OUTPUT];
+    obey_station(line, bay, lahzavar_station_frame(&line->bays[bay].station, octets, length, out, sizeof out), out);
+}
+
+static void give_car(struct line *line, unsigned bay, const uint8_t *octets, size_t length)
+{
+    uint8_t out[LAHZAVAR_CAR_LEAST_OUTPUT];
+    obey_car(line, bay, lahzavar_car_frame(&line->bays[bay].car, octets, length, out, sizeof out), out);
+}
+
+/* A station's modem has measured a car's sound: the attenuation between both, in each group a little more. */
+static void give_profile(struct line *line, unsigned bay, unsigned car)
+{
+    uint8_t modem[6], station[6], named[6], frame[FRAME_MOST];
+    uint8_t *values = frame + FRAME_HEAD + 8;
+    uint64_t chance = next_random();
+    unsigned group;
+    size_t length;
+    address_of(MODEM, bay, modem);
+    address_of(STATION, bay, station);
+    address_of(CAR, line->exchanged && car < 2 ? 1 - car : car, named);
+    length = write_profile(frame, modem, station, named, line->bays[car].attenuation[bay]);
+    for (group = 0; group < LAHZAVAR_GROUPS; group++) {
+        values[group] = (uint8_t)(values[group] + (chance >> group & VARIATION));
+    }
+    give_station(line, bay, frame, length);
+}
+
+static int is_lost(const struct line *line)
+{
+    return line->scenario->lost > 0 && below(100) < line->scenario->lost;
+}
+
+/* A frame reaches everybody but its sender, beginning at any bay; a modem measures the sounds that reach it. */
+static void deliver(struct line *line, const struct frame *frame)
+{
+    unsigned bays = line->scenario->bays, first = (unsigned)below(bays), turn;
+    const uint8_t *from = frame->octets + 6;
+    for (turn = 0; turn < bays; turn++) {
+        unsigned bay = (first + turn) % bays;
+        if (!is_address(from, STATION, bay) && !is_lost(line)) {
+            give_station(line, bay, frame->octets, frame->length);
+            if (frame_type(frame->octets, frame->length) == CM_MNBC_SOUND_IND) {
+                give_profile(line, bay, from[5]);
+            }
+        }
+        if (!is_address(from, CAR, bay) && !is_lost(line)) {
+            give_car(line, bay, frame->octets, frame->length);
+        }
+    }
+}
+
+static void deliver_due(struct line *line)
+{
+    while (line->taken != line->put && line->queue[line->taken % QUEUE].due <= line->now) {
+        deliver(line, &line->queue[line->taken % QUEUE]);
+        line->taken++;
+    }
+}
+
+/* Configures a station, with a new key. */
+static void configure_station(struct line *line, unsigned bay)
+{
+    struct bay *own = &line->bays[bay];
+    struct lahzavar_answer answer;
+    uint8_t us[6], modem[6];
+    address_of(STATION, bay, us);
+    address_of(MODEM, bay, modem);
+    fill(own->nid, 7);
+    fill(own->nmk, 16);
+    own->nid[6] &= 0x3F;
+    answer = lahzavar_station_configure(&own->station, lahzavar_address(us), lahzavar_address(modem), lahzavar_nid(own->nid),
+                                        own->nmk);
+    check_refusal(line, bay, answer.refusal);
+}
+
+static void configure_car(struct line *line, unsigned bay)
+{
+    uint8_t us[6];
+    address_of(CAR, bay, us);
+    check_refusal(line, bay, lahzavar_car_configure(&line->bays[bay].car, lahzavar_address(us), line->reference).refusal);
+}
+
+/* A station's pilot goes to B, with a new key. */
+static void plug_in(struct line *line, unsigned bay)
+{
+    struct bay *own = &line->bays[bay];
+    uint32_t reading = own->station_clock + line->now;
+    own->plug_in_at = NEVER;
+    configure_station(line, bay);
+    check_refusal(line, bay, lahzavar_station_pilot(&own->station, LAHZAVAR_PILOT_B, reading).refusal);
+}
+
+/* A car starts, with a new RunID and new random octets. */
+static void start(struct line *line, unsigned bay)
+{
+    struct bay *own = &line->bays[bay];
+    uint8_t run[8], random[16], out[LAHZAVAR_CAR_LEAST_OUTPUT];
+    uint32_t reading = own->car_clock + line->now;
+    own->first_start = own->starts == 0 ? line->now : own->first_start;
+    own->starts++;
+    own->start_at = NEVER;
+    fill(run, 8);
+    fill(random, 16);
+    obey_car(line, bay, lahzavar_car_start(&own->car, run, random, reading, out, sizeof out), out);
+}
+
+/* Whether a car and the station that it joins are matched. */
+static int is_matched(const struct line *line, unsigned bay)
+{
+    const struct bay *own = &line->bays[bay];
+    return lahzavar_car_state(&own->car) == LAHZAVAR_CAR_MATCHED &&
+           lahzavar_station_state(&line->bays[own->joined].station) == LAHZAVAR_MATCHED;
+}
+
+/* The modems of a car and of its station have a link. */
+static void link_up(struct line *line, unsigned bay)
+{
+    struct bay *own = &line->bays[bay];
+    uint32_t car = lahzavar_car_link_up(&own->car).indication;
+    uint32_t station = lahzavar_station_link_up(&line->bays[own->joined].station).indication;
+    own->link_at = NEVER;
+    require(line, bay, car == LAHZAVAR_LINK_ESTABLISHED && station == LAHZAVAR_LINK_ESTABLISHED, "one end has no link");
+    require(line, bay, is_matched(line, bay), "one end is not matched");
+    line->linked++;
+}
+
+static void do_what_is_due(struct line *line)
+{
+    unsigned bay;
+    for (bay = 0; bay < line->scenario->bays; bay++) {
+        if (line->bays[bay].plug_in_at == line->now) {
+            plug_in(line, bay);
+        }
+        if (line->bays[bay].start_at == line->now) {
+            start(line, bay);
+        }
+        if (line->bays[bay].link_at == line->now) {
+            link_up(line, bay);
+        }
+    }
+}
+
+/* Ticks the ends in which times run. */
+static void tick(struct line *line)
+{
+    uint8_t out[LAHZAVAR_LEAST_OUTPUT];
+    unsigned bay;
+    for (bay = 0; bay < line->scenario->bays; bay++) {
+        struct bay *own = &line->bays[bay];
+        uint32_t station = lahzavar_station_state(&own->station), station_reading = own->station_clock + line->now;
+        uint32_t car = lahzavar_car_state(&own->car), car_reading = own->car_clock + line->now;
+        if (station_reading % line->station_tick == 0 && (station == LAHZAVAR_MATCHING || station == LAHZAVAR_JOINING)) {
+            obey_station(line, bay, lahzavar_station_tick(&own->station, station_reading, out, sizeof out), out);
+        }
+        if (car_reading % line->car_tick == 0 && car != LAHZAVAR_CAR_IDLE && car != LAHZAVAR_CAR_MATCHED) {
+            obey_car(line, bay, lahzavar_car_tick(&own->car, car_reading, out, sizeof out), out);
+        }
+    }
+}
+
+/* Whether each station hears fewer other cars from its plug-in to its own car's start than it has records. */
+static int has_records_left(const struct line *line)
+{
+    unsigned bay, other;
+    for (bay = 0; bay < line->scenario->bays; bay++) {
+        const struct bay *own = &line->bays[bay];
+        unsigned heard = 0;
+        for (other = 0; other < line->scenario->bays; other++) {
+            uint32_t at = line->bays[other].start_at;
+            heard += other != bay && at + DELAY_MOST >= own->plug_in_at && at <= own->start_at;
+        }
+        if (heard >= LAHZAVAR_RECORDS) {
+            return 0;
+        }
+    }
+    return 1;
+}
+
+/* Draws when each car is plugged in and starts. */
+static void draw_times(struct line *line)
+{
+    enum plugging plugging = line->scenario->plugging;
+    unsigned group = plugging == IN_GROUPS ? LAHZAVAR_RECORDS : plugging == TOO_MANY ? LAHZAVAR_RECORDS + 1 : BAYS;
+    unsigned window = between(2000, 20000), bay;
+    for (bay = 0; bay < line->scenario->bays; bay++) {
+        struct bay *own = &line->bays[bay];
+        int apart = plugging == ONE_BY_ONE || plugging == AT_ANY_TIME;
+        own->plug_in_at = apart ? between(0, window) : GROUP_PERIOD * (bay / group);
+        own->start_at = own->plug_in_at + (apart ? between(100, 3000) : GROUP_START);
+    }
+}
+
+/* Draws a clock's reading, every second one less than a minute before its wrap. */
+static uint32_t draw_reading(void)
+{
+    return below(2) == 0 ? UINT32_MAX - between(0, 60000) : (uint32_t)next_random();
+}
+
+/* Draws a bay: the clocks, and how every station hears its car. */
+static void draw_bay(struct line *line, unsigned bay)
+{
+    const struct scenario *scenario = line->scenario;
+    struct bay *own = &line->bays[bay];
+    unsigned station;
+    memset(own, 0, sizeof *own);
+    own->station_clock = draw_reading();
+    own->car_clock = draw_reading();
+    own->link_at = NEVER;
+    for (station = 0; station < scenario->bays; station++) {
+        const unsigned *range = station == bay ? scenario->own : scenario->others;
+        own->attenuation[station] = (uint8_t)(line->reference + between(range[0], range[1]));
+    }
+    configure_station(line, bay);
+    configure_car(line, bay);
+}
+
+/* Draws a run: the bays, with nothing plugged in yet, the line's delay and the times. */
+static void draw(struct line *line)
+{
+    unsigned bay;
+    line->put = line->taken = line->linked = line->now = 0;
+    line->delay = between(0, DELAY_MOST);
+    for (bay = 0; bay < line->scenario->bays; bay++) {
+        draw_bay(line, bay);
+    }
+    do {
+        draw_times(line);
+    } while (line->scenario->plugging == ONE_BY_ONE && !has_records_left(line));
+}
+
+/* Runs until every car has a link, or the limit; all cars are matched then, unless any bay will do. */
+static void run(struct line *line)
+{
+    unsigned bays = line->scenario->bays, bay;
+    for (; line->linked < bays && line->now < LIMIT; line->now++) {
+        do_what_is_due(line);
+        tick(line);
+        deliver_due(line);
+    }
+    for (bay = 0; bay < bays; bay++) {
+        int matched = is_matched(line, bay);
+        require(line, bay, matched || line->scenario->demand == ANY_BAY, "the car has not joined");
+        line->tally.not_joined += !matched;
+    }
+}
+
+static void print(const struct line *line)
+{
+    const struct tally *tally = &line->tally;
+    printf("%s: %u matchings; %u to %u starts each, %u in all; %lu to %lu ms, %lu on average", line->title, tally->matchings,
+           tally->starts_least, tally->starts_most, tally->starts, (unsigned long)tally->time_least,
+           (unsigned long)tally->time_most, (unsigned long)(tally->time / tally->matchings));
+    if (line->scenario->demand == ANY_BAY) {
+        printf("; %u in a wrong bay, %u not joined", tally->wrong_bays, tally->not_joined);
+    }
+    printf("\n");
+    fflush(stdout);
+}
+
+/* Makes a line for a scenario; its title has the attenuations as they are measured. */
+static void set_up(struct line *line, const struct scenario *scenario)
+{
+    static const char *const pluggings[] = {"in groups", "too many at once", "all at once", "one by one", "at any time"};
+    static const struct tally nothing = {0, 0, 0, 0, 0, 0, 0, 0, 0};
+    line->scenario = scenario;
+    line->tally = nothing;
+    snprintf(line->title, sizeof line->title,
+             "%u bays, own station up to %u and others from %u dB over the reference, %s, %u %% lost", scenario->bays,
+             scenario->own[1] + VARIATION, scenario->others[0], pluggings[scenario->plugging], scenario->lost);
+}
+
+/* Runs a scenario with each seed, both references and, where every first start has to succeed, every pair of ticks. */
+static void try_scenario(struct line *line, const struct scenario *scenario, uint64_t seeds, uint64_t seed)
+{
+    static const unsigned ticks[9][2] = {{5, 10}, {1, 1}, {1, 5}, {1, 10}, {5, 1}, {5, 5}, {10, 1}, {10, 5}, {10, 10}};
+    unsigned pairs = scenario->demand == OWN_BAY_AT_FIRST_START ? 9 : 1, at;
+    set_up(line, scenario);
+    for (line->seed = seed; line->seed < seed + seeds; line->seed++) {
+        for (at = 0; at < 2 * pairs; at++) {
+            random_state = line->seed << 8 | at;
+            line->reference = at % 2 == 0 ? 26 : 0;
+            line->car_tick = ticks[at / 2][0];
+            line->station_tick = ticks[at / 2][1];
+            draw(line);
+            run(line);
+        }
+    }
+    print(line);
+}
+
+int main(int count, char **arguments)
+{
+    static const struct scenario scenarios[] = {
+        {10, {1, 6}, {12, 40}, IN_GROUPS, 0, OWN_BAY_AT_FIRST_START},
+        {10, {1, 6}, {12, 40}, ONE_BY_ONE, 0, OWN_BAY_AT_FIRST_START},
+        {16, {1, 16}, {20, 40}, AT_ANY_TIME, 0, OWN_BAY},
+        {16, {1, 16}, {20, 40}, AT_ANY_TIME, 5, OWN_BAY},
+        {16, {1, 16}, {20, 40}, AT_ANY_TIME, 20, OWN_BAY},
+        {16, {1, 16}, {20, 40}, ALL_AT_ONCE, 0, OWN_BAY},
+        {16, {1, 16}, {20, 40}, ALL_AT_ONCE, 5, OWN_BAY},
+        {16, {1, 16}, {20, 40}, ALL_AT_ONCE, 20, OWN_BAY},
+        {10, {1, 1}, {7, 12}, ONE_BY_ONE, 0, ANY_BAY},
+        {10, {1, 1}, {7, 12}, ONE_BY_ONE, 5, ANY_BAY},
+        {10, {1, 1}, {7, 12}, ONE_BY_ONE, 20, ANY_BAY},
+        {10, {1, 6}, {12, 40}, TOO_MANY, 0, ANY_BAY},
+    };
+    static struct line line;
+    uint64_t seeds = count > 1 ? strtoull(arguments[1], NULL, 10) : 1;
+    uint64_t seed = count > 2 ? strtoull(arguments[2], NULL, 10) : 1;
+    size_t at, most = sizeof scenarios / sizeof *scenarios;
+    line.exchanged = count > 3;
+    for (at = 0; at < (line.exchanged ? 1 : most) && seeds > 0; at++) {
+        try_scenario(&line, &scenarios[at], seeds, seed);
+    }
+    return 0;
+}
