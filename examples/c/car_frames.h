@@ -1,4 +1,4 @@
-/* The frames that cars and the modem send to a station, for the example and the tests; a driver needs none of this. */
+/* The frames that cars and the modem send to a station, for the examples and the tests; a driver needs none of this. */
 #ifndef CAR_FRAMES_H
 #define CAR_FRAMES_H
 

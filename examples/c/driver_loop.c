@@ -10,7 +10,7 @@
 #include <stdio.h>
 
 #define QUEUE 32u /* a power of two, so that the counts may wrap */
-#define REFUSALS (LAHZAVAR_ONLY_FOR_CARS + 2)
+#define REFUSALS (LAHZAVAR_LAST_REFUSAL + 2)
 
 _Static_assert(ATOMIC_INT_LOCK_FREE == 2, "an interrupt can't wait for a lock");
 

@@ -1,11 +1,10 @@
 /*
- * The numbers of lahzavar.h against the library: sizes, and each refusal, indication, state and pilot by what it does; and
- * what the header adds: sentences, NULL, and wiped stations.
+ * The numbers of lahzavar.h against the library: sizes, and each refusal, indication, state and pilot of a station by what
+ * it does; and what the header adds: sentences, NULL, and wiped stations. car_constants.c has those of a car.
  */
-#include "car_frames.h"
+#include "checks.h"
 #include "lahzavar.h"
-
-#include <stdio.h>
+#include "station_frames.h"
 
 static const uint8_t us[6] = {2, 0, 0, 0, 0, 0xAA};
 static const uint8_t modem[6] = {2, 0, 0, 0, 0, 0xBB};
@@ -17,16 +16,6 @@ static const struct car first = {{2, 0, 0, 0, 0, 1}, {1, 2, 3, 4, 5, 6, 7, 8}};
 static struct lahzavar_station station;
 static uint8_t out[LAHZAVAR_LEAST_OUTPUT + 1];
 static uint8_t frame[FRAME_MOST];
-static int faults;
-
-/* Counts a number that is not the expected one, and says which. */
-static void same(const char *what, size_t found, size_t expected)
-{
-    if (found != expected) {
-        fprintf(stderr, "constants: %s is %lu, not %lu\n", what, (unsigned long)found, (unsigned long)expected);
-        faults++;
-    }
-}
 
 static struct car car_at(unsigned last)
 {
@@ -67,9 +56,13 @@ static void sizes(void)
     same("words", lahzavar_words(), LAHZAVAR_WORDS);
     same("sums", lahzavar_sums(), LAHZAVAR_SUMS);
     same("least output", lahzavar_least_output(), LAHZAVAR_LEAST_OUTPUT);
+    same("words of a car", lahzavar_words_of_car(), LAHZAVAR_CAR_WORDS);
+    same("least output of a car", lahzavar_least_output_of_car(), LAHZAVAR_CAR_LEAST_OUTPUT);
     same("library fits", (size_t)lahzavar_library_fits(), 1);
     same("answer", sizeof(struct lahzavar_answer), 16);
     same("heard", sizeof(struct lahzavar_heard), 8);
+    same("key in numbers", sizeof(struct lahzavar_key_numbers), 40);
+    same("a car", sizeof(struct lahzavar_car), 8 * LAHZAVAR_CAR_WORDS);
     same("sums in the station", offsetof(struct lahzavar_station, private_sums), 8 * LAHZAVAR_WORDS);
     same("address", (size_t)lahzavar_address(us), 0x0200000000AAu);
     same("NID", (size_t)lahzavar_nid(nid), 0x07060504030201u);
@@ -111,13 +104,9 @@ static void refusals_of_reading(void)
          LAHZAVAR_OUTPUT_TOO_SHORT);
     same("no output", lahzavar_station_frame(&station, frame, 60, NULL, sizeof out).refusal, LAHZAVAR_OUTPUT_TOO_SHORT);
     same("no output of a tick", lahzavar_station_tick(&station, 1, NULL, sizeof out).refusal, LAHZAVAR_OUTPUT_TOO_SHORT);
-    (void)write_head(frame, first.address, us, CM_SLAC_PARM_CNF, 25);
-    memset(frame + 19, 0xFF, 6);
-    frame[25] = 10;
-    frame[26] = 6;
-    frame[27] = 1;
-    memcpy(frame + 28, first.address, 6);
-    same("only for cars", hear(60).refusal, LAHZAVAR_ONLY_FOR_CARS);
+    same("only for cars", hear(write_parm_cnf(frame, &first, us)).refusal, LAHZAVAR_ONLY_FOR_CARS);
+    same("only for cars", hear(write_report(frame, &first, us, 10, 0)).refusal, LAHZAVAR_ONLY_FOR_CARS);
+    same("only for cars", hear(write_match_cnf(frame, &first, us, nid, nmk)).refusal, LAHZAVAR_ONLY_FOR_CARS);
     same("not for us", hear(write_rsp(frame, &first, modem)).refusal, LAHZAVAR_NOT_FOR_US);
 }
 
@@ -164,7 +153,7 @@ static void end_of_admission(void)
 /* A station that was badly configured or wiped, or NULL: every call answers 16, and no output is written. */
 static void answers_nothing(struct lahzavar_station *other)
 {
-    size_t length = write_parm_req(frame, &first), at;
+    size_t length = write_parm_req(frame, &first);
     memset(out, 0xEE, sizeof out);
     same("frame", lahzavar_station_frame(other, frame, length, out, sizeof out).refusal, LAHZAVAR_BAD_CONFIGURATION);
     same("no frame", lahzavar_station_frame(other, NULL, 0, NULL, 0).refusal, LAHZAVAR_BAD_CONFIGURATION);
@@ -178,9 +167,7 @@ static void answers_nothing(struct lahzavar_station *other)
     same("sounds", lahzavar_station_sounds_heard(other, 1).sounds, 0);
     same("state", lahzavar_station_state(other), LAHZAVAR_UNMATCHED);
     same("records held", lahzavar_station_records_held(other), 0);
-    for (at = 0; at < sizeof out; at++) {
-        same("an octet of the output", out[at], 0xEE);
-    }
+    all_octets("an octet of the output", out, sizeof out, 0xEE);
 }
 
 /* Configures a station badly, where one before it was good. */
@@ -238,10 +225,8 @@ static void wiped_station(void)
     for (at = 0; at < LAHZAVAR_SUMS; at++) {
         same("a wiped sum", room.station.private_sums[at], 0);
     }
-    for (at = 0; at < sizeof room.before; at++) {
-        same("an octet before a wiped station", room.before[at], 0xEE);
-        same("an octet behind a wiped station", room.after[at], 0xEE);
-    }
+    all_octets("an octet before a wiped station", room.before, sizeof room.before, 0xEE);
+    all_octets("an octet behind a wiped station", room.after, sizeof room.after, 0xEE);
     answers_nothing(&room.station);
     lahzavar_station_wipe(&station);
     answers_nothing(&station);
@@ -252,10 +237,10 @@ static void wiped_station(void)
 /* Each number has a sentence of its own; those of a later library share one. */
 static void sentences(void)
 {
-    const char *later = lahzavar_refusal_text(LAHZAVAR_ONLY_FOR_CARS + 1);
+    const char *later = lahzavar_refusal_text(LAHZAVAR_LAST_REFUSAL + 1);
     uint32_t number, other;
     same("the sentence of the greatest number", (size_t)strcmp(lahzavar_refusal_text(UINT32_MAX), later), 0);
-    for (number = 0; number <= LAHZAVAR_ONLY_FOR_CARS; number++) {
+    for (number = 0; number <= LAHZAVAR_LAST_REFUSAL; number++) {
         const char *text = lahzavar_refusal_text(number);
         same("an empty sentence", *text == '\0', 0);
         same("a sentence as of a later library", strcmp(text, later) == 0, 0);

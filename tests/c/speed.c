@@ -26,7 +26,7 @@ static struct lahzavar_station station;
 static uint8_t out[LAHZAVAR_LEAST_OUTPUT];
 static uint8_t *input;
 static size_t input_length;
-static unsigned long refusals[LAHZAVAR_ONLY_FOR_CARS + 1];
+static unsigned long refusals[LAHZAVAR_LAST_REFUSAL + 1];
 
 /* Not inlined, so that their instructions can be counted by their names. */
 void run_frames(void) __attribute__((noinline));
@@ -91,7 +91,7 @@ static void check(void)
         }
     }
     printf("sum %016llx\n", (unsigned long long)sum);
-    for (number = 0; number <= LAHZAVAR_ONLY_FOR_CARS; number++) {
+    for (number = 0; number <= LAHZAVAR_LAST_REFUSAL; number++) {
         if (refusals[number] > 0) {
             printf("%lu %lu\n", (unsigned long)number, refusals[number]);
         }

@@ -1,0 +1,90 @@
+/*
+ * What the scripts of both ends share: a script on standard input, the answers on standard output, numbers in four octets,
+ * low octet first.
+ */
+#ifndef SCRIPT_H
+#define SCRIPT_H
+
+#include "lahzavar.h"
+
+#include <stdio.h>
+#include <stdlib.h>
+
+#define SCRIPT_MOST 4096u
+
+struct event {
+    uint32_t kind, reading, room, length;
+    uint8_t octets[SCRIPT_MOST];
+};
+
+static uint8_t out[SCRIPT_MOST];
+
+static inline void fail(const char *what)
+{
+    fprintf(stderr, "script: %s\n", what);
+    exit(1);
+}
+
+static inline void take(uint8_t *place, size_t count)
+{
+    if (fread(place, 1, count, stdin) != count) {
+        fail("the input ends early");
+    }
+}
+
+static inline uint32_t take_number(void)
+{
+    uint8_t four[4];
+    take(four, 4);
+    return (uint32_t)four[0] | (uint32_t)four[1] << 8 | (uint32_t)four[2] << 16 | (uint32_t)four[3] << 24;
+}
+
+static inline void take_event(struct event *event)
+{
+    event->kind = take_number();
+    event->reading = take_number();
+    event->room = take_number();
+    event->length = take_number();
+    if (event->room > SCRIPT_MOST || event->length > SCRIPT_MOST) {
+        fail("a room or length over 4,096");
+    }
+    take(event->octets, event->length);
+}
+
+static inline void put_number(uint32_t number)
+{
+    putchar((int)(number & 0xFF));
+    putchar((int)(number >> 8 & 0xFF));
+    putchar((int)(number >> 16 & 0xFF));
+    putchar((int)(number >> 24 & 0xFF));
+}
+
+/* A refusal or 0, an indication, and the octets that were answered. */
+static inline void put_reply(uint32_t refusal, uint32_t indication, const uint8_t *octets, uint32_t length)
+{
+    put_number(refusal);
+    put_number(indication);
+    put_number(length);
+    fwrite(octets, 1, length, stdout);
+}
+
+/* The reply to a call whose frames stand in `out`. */
+static inline void put_answer(struct lahzavar_answer answer)
+{
+    put_reply(answer.refusal, answer.indication, out, answer.octets);
+}
+
+/* The script of one end: what configures it, and what one event does to it. Gives the program's exit status. */
+static inline int run_script(void (*configure)(void), void (*happen)(const struct event *event))
+{
+    static struct event event;
+    uint32_t events;
+    configure();
+    for (events = take_number(); events > 0; events--) {
+        take_event(&event);
+        happen(&event);
+    }
+    return fflush(stdout) == 0 ? 0 : 1;
+}
+
+#endif
