@@ -27,7 +27,7 @@ all: $(built)
 
 # The check proves crates side by side, where the second command takes them one by one.
 $(built): $(sources)
-	rt check words station
+	rt check words station car car_words
 	rt staticlib lahzavar
 
 install: $(if $(filter file,$(origin ARCHIVE)),$(built))

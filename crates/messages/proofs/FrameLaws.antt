@@ -1,5 +1,5 @@
 -- Laws of a whole frame: the payload behind the head, what an accepted frame tells, and its group values.
-use Prim.Native.Nat.{ℕ, _+_, _-_, _≤_}
+use Prim.Native.Nat.{ℕ, _+_, _≤_}
 use mathlib.Core.Path.{_≡_, refl, sym, ap, ap₂, _∙_, subst}
 use mathlib.Core.Bool.{Bool, true, false, cond}
 use mathlib.Core.List.{List, [], _∷_}
@@ -7,15 +7,15 @@ use mathlib.Core.Option.{Option, none, some}
 use native.Mathlib.Omega.{arith}
 use borrow.Author.Tests.{eqb-true, leb-true}
 use lib.Dec.{eqb, leb}
-use lib.ListN.{length, take, drop, length-drop}
+use lib.ListN.{length, take, drop}
 use lib.Seq.{drop-drop}
 use types.Run.{OneOf, miss}
 use denote.Enum.Declared.{tagOf}
 use Rattle.octets.specs.Octets.{value, lowValue, part}
-use Rattle.messages.specs.Layout.{size, holds, read}
+use Rattle.messages.specs.Layout.{Values, size, holds, read}
 use Rattle.messages.specs.Table as table
 use Rattle.messages.specs.Table.{groupCount, typeOf, payloadSize, head, filledSize, writtenSize, payload, addressed}
-use Rattle.messages.specs.Reading.{Checked, no, yes, ofType, kinds, sized, kindRules, payloadRules, frameRules, readRules, noGroups, groupsIn, groupsOf}
+use Rattle.messages.specs.Reading.{Checked, no, yes, check, ofType, kinds, sized, kindRules, payloadRules, frameRules, readRules, noGroups, groupsIn, groupsOf}
 use Rattle.messages.specs.Answers.{numberOf, messageOf}
 use Rattle.messages.specs.Private.{kindOf, Reads}
 use Rattle.messages.specs.declared.Message.{Message}
@@ -25,26 +25,28 @@ use Rattle.messages.specs.declared.ReadAnswer.the-variants.{Read, Refuse
 use Rattle.messages.specs.declared.Refusal.{Refusal}
 use Rattle.messages.specs.declared.kinds.Kind.{Kind}
 use Rattle.messages.proofs.Message.{the-type}
-use Rattle.octets.proofs.OctetLaws.{lent-part}
+use Rattle.messages.proofs.LayoutLaws.{holds-take, read-take}
+use Rattle.messages.proofs.TableLaws.{size-payload}
 use Rattle.messages.proofs.CheckLaws.{passed}
 
--- ---- the payload, as the code lends it: the part behind the head
+-- ---- the payload, as the code lends it: the part behind the head that its row of the table says
+
+payload-part : (k : table.Kind) (d f n : ℕ) (p : List ℕ) → payloadSize k ≤ n → payloadRules k d f (take n p) ≡ payloadRules k d f p
+payload-part k d f n p h =
+    let room : 0 + size (payload k d f) ≤ n = rw (size-payload k d f) (omega arith) in
+    ap₂ (λ (v : Values (payload k d f)) (b : Bool). check (addressed k d f v) 5 (check b 6 (yes (record { kind = k; dst = d; src = f; values = v }))))
+    (read-take n p (payload k d f) 0 room) (holds-take n p (payload k d f) 0 room)
 
 module _ (s : List ℕ) where
-  abbrev lent : List ℕ
-  lent = take (length s - size head) (drop (size head) s)
+  -- a frame of kind i has room for the payload of its kind
+  pub payload-room : (i j : Kind) → i ≡ j → filledSize (kindOf i) ≤ length s → filledSize (kindOf j) ≤ length s
+  payload-room i j e h = rw e at h
 
-  behind : lent ≡ drop (size head) s
-  behind = lent-part (size head) s
-
-  pub payload-room : (i j : Kind) → i ≡ j → filledSize (kindOf i) ≤ length s → payloadSize (kindOf j) ≤ length lent
-  payload-room i j e h = rw (behind, length-drop, ← e) (omega arith)
-
-  pub payload-reads : (r : ReadAnswer) (d f : ℕ) (i j : Kind) → Reads r (payloadRules (kindOf j) d f lent)
-      → d ≡ value s 0 6 → f ≡ value s 6 6 → i ≡ j → Reads r (frameRules (yes (kindOf i)) s)
-  payload-reads r d f i j h ed ef e =
+  pub payload-reads : (r : ReadAnswer) (d f n : ℕ) (i j : Kind) → Reads r (payloadRules (kindOf j) d f (take n (drop (size head) s)))
+      → payloadSize (kindOf j) ≤ n → d ≡ value s 0 6 → f ≡ value s 6 6 → i ≡ j → Reads r (frameRules (yes (kindOf i)) s)
+  payload-reads r d f n i j h w ed ef e =
       subst (Reads r)
-      (ap (payloadRules (kindOf j) d f) behind
+      (payload-part (kindOf j) d f n (drop (size head) s) w
       ∙ ap₂ (λ (x y : ℕ). payloadRules (kindOf j) x y (drop (size head) s)) ed ef
       ∙ ap (λ (k : Kind). frameRules (yes (kindOf k)) s) (sym e))
       h

@@ -8,10 +8,10 @@ use native.Mathlib.Nat.{one-le-pow}
 use borrow.Author.Tests.{eq-eqb, eqb-true, ltb-true, lt-ltb}
 use lib.Dec.{eqb, ltb}
 use lib.ListN.{length, take, drop, length-append, length-take, length-drop}
-use lib.Seq.{take-at, drop-at, take-add, drop-drop}
+use lib.Seq.{take-at, drop-at}
 use Rattle.octets.specs.Octets.{value, bytes, lowValue, lowBytes, part, Octets}
-use Rattle.messages.specs.Layout.{Field, is, number, low, octets, reserved, Values, width, size, holds, read, encode, fits}
-use Rattle.octets.proofs.OctetLaws.{length-bytes, value-lt, value-bytes, bytes-value, length-low, low-lt, low-value-bytes, low-bytes-value}
+use Rattle.messages.specs.Layout.{Field, is, number, low, octets, reserved, Values, width, size, holds, read, encode, zeroedField, zeroed, fits}
+use Rattle.octets.proofs.OctetLaws.{length-bytes, value-lt, value-bytes, bytes-value, length-low, low-lt, low-value-bytes, low-bytes-value, value-take, low-take, part-take}
 
 pub and-left : (a b : Bool) → (a && b) ≡ true → a ≡ true
 and-left true b e = refl
@@ -29,7 +29,7 @@ test (is n v) at s = eqb (value s at n) v
 test (number n) at s = true
 test (low n b) at s = ltb (lowValue s at n) b
 test (octets n) at s = true
-test (reserved n) at s = eqb (value s at n) 0
+test (reserved n) at s = true
 
 -- its octets, and the values of the fields behind it
 abbrev pub first : (f : Field) (fs : List Field) → Values (f ∷ fs) → List ℕ
@@ -111,7 +111,7 @@ module _ (fs : List Field) where
   test-first (number n) vs pre behind h = refl
   test-first (low n b) vs pre behind h = rw (low-value-bytes n (vs .0) pre behind (h .1)) (lt-ltb (vs .0) b (h .0))
   test-first (octets n) vs pre behind h = refl
-  test-first (reserved n) vs pre behind h = eq-eqb _ 0 (value-bytes n 0 pre behind h)
+  test-first (reserved n) vs pre behind h = refl
 
   -- and reading them gives the field's value
   read-first : (f : Field) (vs : Values (f ∷ fs)) (pre behind : List ℕ) → FitsField f fs vs
@@ -124,14 +124,14 @@ module _ (fs : List Field) where
       ap₂ (λ (a : List ℕ) (b : Values fs). (a, b)) (ap (take n) (drop-at pre (vs .0 ++ behind) (length pre) refl) ∙ take-at (vs .0) behind n h) e
   read-first (reserved n) vs pre behind h e = e
 
-  -- the octets that were read are those that stand there
+  -- the octets that are written of what was read are those that stand there, zeroed where they are reserved
   first-read : (f : Field) (at : ℕ) (s : List ℕ) → Octets s → at + width f ≤ length s → test f at s ≡ true
-      → first f fs (read at (f ∷ fs) s) ≡ part s at (width f)
+      → first f fs (read at (f ∷ fs) s) ≡ zeroedField f at s
   first-read (is n v) at s o h t = ap (bytes n) (sym (eqb-true (value s at n) v t)) ∙ bytes-value n at s o h
   first-read (number n) at s o h t = bytes-value n at s o h
   first-read (low n b) at s o h t = low-bytes-value n at s o h
   first-read (octets n) at s o h t = refl
-  first-read (reserved n) at s o h t = ap (bytes n) (sym (eqb-true (value s at n) 0 t)) ∙ bytes-value n at s o h
+  first-read (reserved n) at s o h t = refl
 
   -- and fit the field
   fits-read : (f : Field) (at : ℕ) (s : List ℕ) → Octets s → at + width f ≤ length s → test f at s ≡ true → FitsField f fs (read at (f ∷ fs) s)
@@ -211,23 +211,19 @@ read-encode (f ∷ fs) vs pre behind h =
     (ap₂ (λ (k : ℕ) (l : List ℕ). read k fs l) (sym (place f fs vs pre behind u)) (moved f fs vs pre behind u)
     ∙ read-encode fs (rest f fs vs) (pre ++ first f fs vs) behind (h .1))
 
-part-more : (s : List ℕ) (at n m : ℕ) → part s at n ++ part s (at + n) m ≡ part s at (n + m)
-part-more s at n m = sym (take-add n m (drop at s) ∙ ap (λ (l : List ℕ). take n (drop at s) ++ take m l) (drop-drop n at s))
-
--- writing what was read gives the octets that were read, and the values fit
+-- writing what was read gives the octets that were read, reserved ones zeroed, and the values fit
 module _ (s : List ℕ) (o : Octets s) where
   tests : (f : Field) (fs : List Field) (at : ℕ) → holds at (f ∷ fs) s ≡ true → (test f at s ≡ true) × (holds (at + width f) fs s ≡ true)
   tests f fs at t =
       let u : (test f at s && holds (at + width f) fs s) ≡ true = sym (holds-cons fs f at s) ∙ t in
       (and-left (test f at s) (holds (at + width f) fs s) u, and-right (test f at s) (holds (at + width f) fs s) u)
 
-  pub encode-read : (fs : List Field) (at : ℕ) → at + size fs ≤ length s → holds at fs s ≡ true → encode fs (read at fs s) ≡ part s at (size fs)
+  pub encode-read : (fs : List Field) (at : ℕ) → at + size fs ≤ length s → holds at fs s ≡ true → encode fs (read at fs s) ≡ zeroed at fs s
   encode-read [] at h t = refl
   encode-read (f ∷ fs) at h t =
       let u = tests f fs at t in
       encode-cons fs f (read at (f ∷ fs) s)
       ∙ ap₂ _++_ (first-read fs f at s o (omega arith) (u .0)) (ap (encode fs) (rest-read fs f at s) ∙ encode-read fs (at + width f) (omega arith) (u .1))
-      ∙ part-more s at (width f) (size fs)
 
   pub read-fits : (fs : List Field) (at : ℕ) → at + size fs ≤ length s → holds at fs s ≡ true → fits fs (read at fs s) ≡ true
   read-fits [] at h t = refl
@@ -235,3 +231,21 @@ module _ (s : List ℕ) (o : Octets s) where
       let u = tests f fs at t in
       fits-cons fs f (read at (f ∷ fs) s) (fits-read fs f at s o (omega arith) (u .0))
       (ap (fits fs) (rest-read fs f at s) ∙ read-fits fs (at + width f) (omega arith) (u .1))
+
+-- what stands in the first octets of a longer run is read from these alone
+module _ (k : ℕ) (s : List ℕ) where
+  pub holds-take : (fs : List Field) (at : ℕ) → at + size fs ≤ k → holds at fs (take k s) ≡ holds at fs s
+  holds-take [] at h = refl
+  holds-take (is n v ∷ fs) at h = ap₂ (λ (a : ℕ) (b : Bool). eqb a v && b) (value-take k s at n (omega arith)) (holds-take fs (at + n) (omega arith))
+  holds-take (number n ∷ fs) at h = holds-take fs (at + n) (omega arith)
+  holds-take (low n b ∷ fs) at h = ap₂ (λ (a : ℕ) (t : Bool). ltb a b && t) (low-take k s at n (omega arith)) (holds-take fs (at + n) (omega arith))
+  holds-take (octets n ∷ fs) at h = holds-take fs (at + n) (omega arith)
+  holds-take (reserved n ∷ fs) at h = holds-take fs (at + n) (omega arith)
+
+  pub read-take : (fs : List Field) (at : ℕ) → at + size fs ≤ k → read at fs (take k s) ≡ read at fs s
+  read-take [] at h = refl
+  read-take (is n v ∷ fs) at h = read-take fs (at + n) (omega arith)
+  read-take (number n ∷ fs) at h = ap₂ (λ (a : ℕ) (b : Values fs). (a, b)) (value-take k s at n (omega arith)) (read-take fs (at + n) (omega arith))
+  read-take (low n b ∷ fs) at h = ap₂ (λ (a : ℕ) (c : Values fs). (a, c)) (low-take k s at n (omega arith)) (read-take fs (at + n) (omega arith))
+  read-take (octets n ∷ fs) at h = ap₂ (λ (a : List ℕ) (b : Values fs). (a, b)) (part-take k s at n (omega arith)) (read-take fs (at + n) (omega arith))
+  read-take (reserved n ∷ fs) at h = read-take fs (at + n) (omega arith)

@@ -27,7 +27,7 @@ joined b at (is n v ∷ fs) s = joined (b && eqb (value s at n) v) (at + n) fs s
 joined b at (number n ∷ fs) s = joined b (at + n) fs s
 joined b at (low n m ∷ fs) s = joined (b && ltb (lowValue s at n) m) (at + n) fs s
 joined b at (octets n ∷ fs) s = joined b (at + n) fs s
-joined b at (reserved n ∷ fs) s = joined (b && eqb (value s at n) 0) (at + n) fs s
+joined b at (reserved n ∷ fs) s = joined b (at + n) fs s
 
 pub joined-holds : (fs : List Field) (b : Bool) (at : ℕ) (s : List ℕ) → joined b at fs s ≡ (b && holds at fs s)
 joined-holds [] b at s = sym (and-true b)
@@ -35,7 +35,7 @@ joined-holds (is n v ∷ fs) b at s = joined-holds fs (b && eqb (value s at n) v
 joined-holds (number n ∷ fs) b at s = joined-holds fs b (at + n) s
 joined-holds (low n m ∷ fs) b at s = joined-holds fs (b && ltb (lowValue s at n) m) (at + n) s ∙ and-assoc b (ltb (lowValue s at n) m) (holds (at + n) fs s)
 joined-holds (octets n ∷ fs) b at s = joined-holds fs b (at + n) s
-joined-holds (reserved n ∷ fs) b at s = joined-holds fs (b && eqb (value s at n) 0) (at + n) s ∙ and-assoc b (eqb (value s at n) 0) (holds (at + n) fs s)
+joined-holds (reserved n ∷ fs) b at s = joined-holds fs b (at + n) s
 
 -- the value of the code that means a message, and that it does
 abbrev pub messageIn : (k : Kind) (d f : ℕ) → Values (payload k d f) → Message

@@ -7,14 +7,14 @@ use mathlib.Core.Option.{Option}
 use native.Mathlib.Omega.{arith}
 use borrow.Author.Tests.{le-leb}
 use lib.Dec.{leb}
-use lib.ListN.{length, take, drop, length-drop}
-use lib.Seq.{drop-at, take-add}
+use lib.ListN.{length, drop, length-drop}
+use lib.Seq.{drop-at}
 use Rattle.octets.specs.Octets.{value, bytes, Octets}
-use Rattle.messages.specs.Layout.{Values, size, holds, read, encode}
-use Rattle.messages.specs.Table.{Kind, typeOf, payloadSize, head, filledSize, writtenSize, payload, Message, addressed}
+use Rattle.messages.specs.Layout.{Values, size, holds, read, encode, zeroed}
+use Rattle.messages.specs.Table.{Kind, typeOf, head, writtenSize, payload, Message, addressed}
 use Rattle.messages.specs.Reading.{Checked, yes, check, ofType, kinds, sized, kindRules, payloadRules, frameRules, readRules}
 use Rattle.messages.specs.Writing.{headOctets, payloadOctets, padding, frame, isAddressed, isLimited, writeRules}
-use Rattle.messages.specs.Claims.{ReadsWritten, WritesRead}
+use Rattle.messages.specs.Claims.{ReadsWritten, zeroedFrame, WritesRead}
 use Rattle.octets.proofs.OctetLaws.{octets-drop, value-bytes}
 use Rattle.messages.proofs.LayoutLaws.{Fits, to-fits, to-full, holds-encode, read-encode, encode-read, read-fits}
 use Rattle.messages.proofs.TableLaws.{size-payload, type-found, addressed-lt}
@@ -110,25 +110,20 @@ module _ (s : List ℕ) (o : Octets s) (m : Message) (x : Accepted s m) where
   room : 0 + size (payload kind d f) ≤ length p
   room = rw (size-payload kind d f, length-drop) (omega (arith, x .found .filled))
 
-  head-same : headOctets got ≡ take (size head) s
+  head-same : headOctets got ≡ zeroed 0 head s
   head-same =
       ap (λ (t : ℕ). encode head (d, (f, (t, tt)))) (sym (x .found .type))
       ∙ encode-read s o head 0 (omega (arith, x .found .filled)) (x .found .fixed)
 
-  payload-same : payloadOctets got ≡ take (payloadSize kind) p
-  payload-same =
-      encode-read p (octets-drop (size head) s o) (payload kind d f) 0 room (x .holding)
-      ∙ ap (λ (n : ℕ). take n p) (size-payload kind d f)
+  payload-same : payloadOctets got ≡ zeroed 0 (payload kind d f) p
+  payload-same = encode-read p (octets-drop (size head) s o) (payload kind d f) 0 room (x .holding)
 
-  frame-same : frame got ≡ take (filledSize kind) s ++ padding kind
+  frame-same : frame got ≡ zeroedFrame got s
   unfolding frame
-  frame-same =
-      ap₂ (λ (a b : List ℕ). a ++ (b ++ padding kind)) head-same payload-same
-      ∙ sym (append-assoc (take (size head) s) (take (payloadSize kind) p) (padding kind))
-      ∙ ap (λ (l : List ℕ). l ++ padding kind) (sym (take-add (size head) (payloadSize kind) s))
+  frame-same = ap₂ (λ (a b : List ℕ). a ++ (b ++ padding kind)) head-same payload-same
 
   abbrev Written : Message → Type 0
-  Written q = (n : ℕ) → writeRules q n ≡ check (leb (writtenSize (q .kind)) n) 15 (yes (take (filledSize (q .kind)) s ++ padding (q .kind)))
+  Written q = (n : ℕ) → writeRules q n ≡ check (leb (writtenSize (q .kind)) n) 15 (yes (zeroedFrame q s))
 
   got-written : Written got
   unfolding writeRules

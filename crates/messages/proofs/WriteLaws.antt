@@ -7,9 +7,9 @@ use native.Mathlib.Omega.{arith}
 use native.Mathlib.Nat.{one-le-pow}
 use borrow.Author.Tests.{le-leb, lt-leb, ltb-true, lt-ltb}
 use lib.Dec.{leb, ltb}
-use borrow.Rule.Slice.PartMut.{putMid, same-len-mid}
+use borrow.Rule.Slice.PartMut.{putMid}
 use lib.ListN.{length, take, drop, length-append, length-replicate}
-use lib.Seq.{sets}
+use lib.Seq.{sets, length-sets}
 use Rattle.octets.specs.Octets.{bytes, splice}
 use Rattle.messages.specs.Layout.{Field, Values, width, size, encode, fits}
 use Rattle.messages.specs.Table as table
@@ -22,7 +22,7 @@ use Rattle.messages.specs.declared.kinds.Kind.the-variants as kind
 use Rattle.messages.specs.declared.writer.Head.{Head}
 use Rattle.messages.specs.declared.Message.{Message}
 use Rattle.messages.specs.declared.Message.the-variants.{SlacParmReq, SlacParmCnf, StartAttenCharInd, AttenCharInd, AttenCharRsp, MnbcSoundInd, SlacMatchReq, SlacMatchCnf, AttenProfileInd}
-use Rattle.octets.proofs.OctetLaws.{bytes-zero, sets-append, sets-splice, sets-lent}
+use Rattle.octets.proofs.OctetLaws.{length-bytes, bytes-zero, sets-append, sets-splice, sets-lent}
 use Rattle.messages.proofs.TableLaws.{size-payload, unicast-lt, addressed-lt}
 use Rattle.messages.proofs.CheckLaws.{pass, fail}
 use Rattle.messages.proofs.LayoutLaws.{first, rest, Fits, Full, full-cons, encode-cons, length-encode, to-fits, from-fits, and-right}
@@ -95,34 +95,50 @@ module _ (m : table.Message) (full : FullIn m) where
       ∙ ap (λ (k : ℕ). sets (sets l 0 h) k (p ++ z)) a
       ∙ sym (sets-append h (p ++ z) l 0)
 
-  -- the same as the code does it: the payload in a part that is lent, the sizes by the head's kind
-  module _ (h : Head) (o : HeadOf h m) (l x y : List ℕ) (filled written : ℕ) where
-    sizes : filled ≡ filledSize (kindOf (h .kind)) → written ≡ writtenSize (kindOf (h .kind)) → (filled ≡ filledSize (m .kind)) × (written ≡ writtenSize (m .kind))
-    sizes f w = (f ∙ ap filledSize (o .kind), w ∙ ap writtenSize (o .kind))
+  -- the same as the code does it: each in a part that is lent, the sizes by the head's kind
+  module _ (h : Head) (o : HeadOf h m) (l : List ℕ) (filled written : ℕ) (f : filled ≡ filledSize (kindOf (h .kind))) (w : written ≡ writtenSize (kindOf (h .kind))) (room : writtenSize (m .kind) ≤ length l) where
+    filled-size : filled ≡ filledSize (m .kind)
+    filled-size = f ∙ ap filledSize (o .kind)
 
-    pub frame-put : (z : List ℕ) → size head ≤ length x → x ≡ sets l 0 (encode head (h .dst, (h .src, (typeOf (kindOf (h .kind)), tt))))
-        → y ≡ sets (take (length x - size head) (drop (size head) x)) 0 (payloadOctets m)
-        → filled ≡ filledSize (kindOf (h .kind)) → written ≡ writtenSize (kindOf (h .kind))
-        → z ≡ sets (putMid (size head) (length x - size head) x y) filled (bytes (written - filled) 0) → z ≡ sets l 0 (frame m)
-    frame-put z n ex ey f w ez =
-        let k = sizes f w in
-        let hx : x ≡ sets l 0 (headOctets m) = ex ∙ simp (o .dst, o .src, o .kind) in
-        let part : putMid (size head) (length x - size head) x y ≡ sets x (size head) (payloadOctets m) =
-        ap (putMid (size head) (length x - size head) x) ey ∙ sets-lent (size head) x (payloadOctets m) n in
-        ez
-        ∙ ap₂ (λ (a b : ℕ). sets (putMid (size head) (length x - size head) x y) a (bytes (b - a) 0)) (k .0) (k .1)
-        ∙ ap (λ (t : List ℕ). sets t (filledSize (m .kind)) (bytes (writtenSize (m .kind) - filledSize (m .kind)) 0))
-        (part ∙ ap (λ (t : List ℕ). sets t (size head) (payloadOctets m)) hx)
+    written-size : written ≡ writtenSize (m .kind)
+    written-size = w ∙ ap writtenSize (o .kind)
+
+    -- the parts stand in the output
+    pub parts-fit : (size head ≤ filled) × (filled ≤ written) × (written ≤ length l)
+    parts-fit = (omega (arith, filled-size), omega (arith, filled-size, written-size), omega (arith, written-size))
+
+    pub payload-fits : payloadSize (m .kind) ≤ filled - size head
+    payload-fits = omega (arith, filled-size)
+
+    pub frame-put : (a b z : List ℕ) → a ≡ sets (take (size head) l) 0 (encode head (h .dst, (h .src, (typeOf (kindOf (h .kind)), tt))))
+        → b ≡ sets (take (filled - size head) (drop (size head) (putMid 0 (size head) l a))) 0 (payloadOctets m)
+        → z ≡ sets (take (written - filled) (drop filled (putMid (size head) (filled - size head) (putMid 0 (size head) l a) b))) 0 (bytes (written - filled) 0)
+        → putMid filled (written - filled) (putMid (size head) (filled - size head) (putMid 0 (size head) l a) b) z ≡ sets l 0 (frame m)
+    frame-put a b z ea eb ez =
+        let x : List ℕ = putMid 0 (size head) l a in
+        let y : List ℕ = putMid (size head) (filled - size head) x b in
+        let ea′ : a ≡ sets (take (size head) l) 0 (headOctets m) = ea ∙ simp (o .dst, o .src, o .kind) in
+        let ex : x ≡ sets l 0 (headOctets m) = ap (putMid 0 (size head) l) ea′ ∙ sets-lent 0 (size head) l (headOctets m) (omega (arith, parts-fit)) (omega (arith, length-head)) in
+        let lx : length x ≡ length l = ap length ex ∙ length-sets l 0 (headOctets m) in
+        let ey : y ≡ sets x (size head) (payloadOctets m) = ap (putMid (size head) (filled - size head) x) eb ∙ sets-lent (size head) (filled - size head) x (payloadOctets m) (omega (arith, parts-fit, lx)) (omega (arith, length-payload, payload-fits)) in
+        let ly : length y ≡ length x = ap length ey ∙ length-sets x (size head) (payloadOctets m) in
+        ap (putMid filled (written - filled) y) ez
+        ∙ sets-lent filled (written - filled) y (bytes (written - filled) 0) (omega (arith, parts-fit, lx, ly)) (omega (arith, length-bytes (written - filled) 0))
+        ∙ ap₂ (λ (j k : ℕ). sets y j (bytes (k - j) 0)) filled-size written-size
+        ∙ ap (λ (t : List ℕ). sets t (filledSize (m .kind)) (bytes (writtenSize (m .kind) - filledSize (m .kind)) 0)) (ey ∙ ap (λ (t : List ℕ). sets t (size head) (payloadOctets m)) ex)
         ∙ frame-stored l
 
-    -- there is room for the padding
-    pub padding-room : writtenSize (m .kind) ≤ length l → length x ≡ length l → length y ≡ length (take (length x - size head) (drop (size head) x))
-        → filled ≡ filledSize (kindOf (h .kind)) → written ≡ writtenSize (kindOf (h .kind))
-        → filled + (written - filled) ≤ length (putMid (size head) (length x - size head) x y)
-    padding-room r lx ly f w =
-        let k = sizes f w in
-        let n : length (putMid (size head) (length x - size head) x y) ≡ length x = same-len-mid (size head) (length x - size head) x y ly in
-        omega (arith, k .0, k .1, n)
+-- a payload in a part that is lent, by the message
+module _ (g l : List ℕ) (e : length g ≡ groupCount) (m m′ : Message) (q : m ≡ m′) (h : payloadSize (messageOf m g .kind) ≤ length l) where
+  pub payload-room : payloadSize (messageOf m′ g .kind) ≤ length l
+  payload-room = subst (λ (x : Message). payloadSize (messageOf x g .kind) ≤ length l) q h
+
+  pub payload-put : (a : List ℕ) → a ≡ sets (take (payloadSize (messageOf m′ g .kind)) l) 0 (payloadOctets (messageOf m′ g))
+      → putMid 0 (payloadSize (messageOf m′ g .kind)) l a ≡ sets l 0 (payloadOctets (messageOf m g))
+  payload-put a ea =
+      ap (putMid 0 (payloadSize (messageOf m′ g .kind)) l) ea
+      ∙ sets-lent 0 (payloadSize (messageOf m′ g .kind)) l (payloadOctets (messageOf m′ g)) (omega (arith, payload-room)) (omega (arith, length-payload (messageOf m′ g) (full-message m′ g e)))
+      ∙ ap (λ (x : Message). sets l 0 (payloadOctets (messageOf x g))) (sym q)
 
 -- ---- the test of a message's values
 

@@ -5,9 +5,10 @@ use mathlib.Core.Bool.{true}
 use mathlib.Core.List.{List, _++_}
 use mathlib.Core.Option.{some}
 use lib.Dec.{leb}
-use lib.ListN.{take}
+use lib.ListN.{drop}
 use Rattle.octets.specs.Octets.{Octets}
-use Rattle.messages.specs.Table.{isUnicast, filledSize, writtenSize, Message}
+use Rattle.messages.specs.Layout.{size, zeroed}
+use Rattle.messages.specs.Table.{isUnicast, head, writtenSize, payload, Message}
 use Rattle.messages.specs.Reading.{yes, check, readRules, carOf}
 use Rattle.messages.specs.Writing.{padding, writeRules}
 use Rattle.messages.specs.Answers.{numberOf, answerOf, writtenOf}
@@ -20,11 +21,15 @@ use Rattle.messages.specs.declared.Written.{Written}
 abbrev pub ReadsWritten : Type 0
 ReadsWritten = (m : Message) (n : ℕ) (ws : List ℕ) → writeRules m n ≡ yes ws → readRules ws ≡ yes m
 
--- writing what was read gives the same frame, padding zeroed, full length, for every octet list that reading accepts
+-- the frame s of the message m, "padding and reserved octets zeroed", at full length
+abbrev pub zeroedFrame : Message → List ℕ → List ℕ
+zeroedFrame m s = zeroed 0 head s ++ (zeroed 0 (payload (m .kind) (m .dst) (m .src)) (drop (size head) s) ++ padding (m .kind))
+
+-- writing what was read gives the same frame, so zeroed, for every octet list that reading accepts
 abbrev pub WritesRead : Type 0
 WritesRead =
     (s : List ℕ) (m : Message) → Octets s → readRules s ≡ yes m
-    → (n : ℕ) → writeRules m n ≡ check (leb (writtenSize (m .kind)) n) 15 (yes (take (filledSize (m .kind)) s ++ padding (m .kind)))
+    → (n : ℕ) → writeRules m n ≡ check (leb (writtenSize (m .kind)) n) 15 (yes (zeroedFrame m s))
 
 -- each refusal has a number of its own
 abbrev pub NumbersDiffer : Type 0

@@ -15,7 +15,7 @@ pub data Field : Type 0 where
   low : ℕ → ℕ → Field
   -- n octets, any
   octets : ℕ → Field
-  -- n octets that the ISO tables call RSVD: zero, and checked
+  -- n octets that the ISO tables call RSVD: not looked at when read, zero when written
   reserved : ℕ → Field
 
 -- what a layout leaves open: one value for each number, low and octets field
@@ -47,7 +47,7 @@ holds at (is n v ∷ fs) s = eqb (value s at n) v && holds (at + n) fs s
 holds at (number n ∷ fs) s = holds (at + n) fs s
 holds at (low n b ∷ fs) s = ltb (lowValue s at n) b && holds (at + n) fs s
 holds at (octets n ∷ fs) s = holds (at + n) fs s
-holds at (reserved n ∷ fs) s = eqb (value s at n) 0 && holds (at + n) fs s
+holds at (reserved n ∷ fs) s = holds (at + n) fs s
 
 -- the values that stand in s from `at`
 abbrev pub read : ℕ → (fs : List Field) → List ℕ → Values fs
@@ -66,6 +66,19 @@ encode (number n ∷ fs) vs = bytes n (vs .0) ++ encode fs (vs .1)
 encode (low n b ∷ fs) vs = lowBytes n (vs .0) ++ encode fs (vs .1)
 encode (octets n ∷ fs) vs = vs .0 ++ encode fs (vs .1)
 encode (reserved n ∷ fs) vs = bytes n 0 ++ encode fs vs
+
+-- a field's octets in s from `at`, zeroed where they are reserved
+abbrev pub zeroedField : Field → ℕ → List ℕ → List ℕ
+zeroedField (is n v) at s = part s at n
+zeroedField (number n) at s = part s at n
+zeroedField (low n b) at s = part s at n
+zeroedField (octets n) at s = part s at n
+zeroedField (reserved n) at s = bytes n 0
+
+-- the layout's octets in s from `at`, "reserved octets zeroed"
+abbrev pub zeroed : ℕ → List Field → List ℕ → List ℕ
+zeroed at [] s = []
+zeroed at (f ∷ fs) s = zeroedField f at s ++ zeroed (at + width f) fs s
 
 -- the values fit their fields
 abbrev pub fits : (fs : List Field) → Values fs → Bool

@@ -1,8 +1,8 @@
 // The kinds of message, by their types and sizes.
 use crate::GROUPS;
 use crate::Refusal;
-use crate::runs::low_number_at;
-use crate::runs::number_at;
+use octets::low_number_at;
+use octets::number_at;
 ghost use mathlib.Core.Path.{_≡_};
 ghost use mathlib.Core.Option.{some};
 ghost use Rattle.messages.specs.Table.{typeOf, payloadSize, filledSize, writtenSize};

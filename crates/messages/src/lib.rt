@@ -1,7 +1,7 @@
 // The nine messages of SLAC matching (ISO 15118-3 Annex A over HomePlug Green PHY): reading and writing their frames.
+mod group_values;
 mod kinds;
 mod reader;
-mod runs;
 mod writer;
 
 use kinds::KindAnswer;
@@ -193,12 +193,12 @@ pub fn groups(frame: &[u8]) -> GroupValues
             car: _,
             run: _,
             sounds: _,
-        } => runs::groups_at(frame, kinds::HEAD + 52),
+        } => group_values::groups_at(frame, kinds::HEAD + 52),
         Message::AttenProfileInd {
             modem: _,
             station: _,
             car: _,
-        } => runs::groups_at(frame, kinds::HEAD + 8),
+        } => group_values::groups_at(frame, kinds::HEAD + 8),
         _ => no_groups(),
     }
 }

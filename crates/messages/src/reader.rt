@@ -1,6 +1,7 @@
 // Reading a payload, a function for each message. Places are those of document 01's payload octets.
 use crate::BROADCAST;
 use crate::CarAddress;
+use crate::GROUPS;
 use crate::Message;
 use crate::ModemAddress;
 use crate::NID_LIMIT;
@@ -14,16 +15,17 @@ use crate::StationAddress;
 use crate::is_unicast;
 use crate::kinds::HEAD;
 use crate::kinds::Kind;
-use crate::runs::is_zero;
-use crate::runs::low_number_at;
-use crate::runs::number_at;
-use crate::runs::octet_at;
+use octets::is_zero;
+use octets::low_number_at;
+use octets::number_at;
+use octets::octet_at;
 ghost use mathlib.Core.Path.{_≡_};
 ghost use mathlib.Core.List.{List, []};
 ghost use Prim.Native.Nat.{ℕ, _≤_};
 ghost use lib.ListN.{length};
-ghost use Rattle.messages.specs.Table.{slacParmReq, slacParmCnf, startAttenCharInd, attenCharInd, attenCharRsp, mnbcSoundInd, slacMatchReq, slacMatchCnf, attenProfileInd, payloadSize, filledSize, matchFields};
-ghost use Rattle.messages.specs.Layout.{size, holds};
+ghost use Rattle.octets.specs.Octets.{value};
+ghost use Rattle.messages.specs.Table.{slacParmReq, slacParmCnf, startAttenCharInd, attenCharInd, attenCharRsp, mnbcSoundInd, slacMatchReq, slacMatchCnf, attenProfileInd, filledSize, matchFields};
+ghost use Rattle.messages.specs.Layout.{holds};
 ghost use Rattle.messages.specs.Reading.{check, yes, payloadRules, frameRules};
 ghost use Rattle.messages.specs.Answers.{messageOf, answerOf};
 ghost use Rattle.messages.specs.Private.{kindOf, Reads};
@@ -44,7 +46,6 @@ fn decide(addresses: bool, fixed: bool, message: Message) -> ReadAnswer
 }
 
 fn slac_parm_req(p: &[u8], dst: u64, src: u64) -> ReadAnswer
-    requires { ⌜ payloadSize slacParmReq ≤ length (now p) ⌝ }
     ensures { λ r. ⌜ Reads r (payloadRules slacParmReq dst src (now (p .entry))) ⌝ }
 {
     let run = number_at(p, 2, 8);
@@ -61,7 +62,6 @@ fn slac_parm_req(p: &[u8], dst: u64, src: u64) -> ReadAnswer
 }
 
 fn slac_parm_cnf(p: &[u8], dst: u64, src: u64) -> ReadAnswer
-    requires { ⌜ payloadSize slacParmCnf ≤ length (now p) ⌝ }
     ensures { λ r. ⌜ Reads r (payloadRules slacParmCnf dst src (now (p .entry))) ⌝ }
 {
     let run = number_at(p, 17, 8);
@@ -84,7 +84,6 @@ fn slac_parm_cnf(p: &[u8], dst: u64, src: u64) -> ReadAnswer
 }
 
 fn start_atten_char_ind(p: &[u8], dst: u64, src: u64) -> ReadAnswer
-    requires { ⌜ payloadSize startAttenCharInd ≤ length (now p) ⌝ }
     ensures { λ r. ⌜ Reads r (payloadRules startAttenCharInd dst src (now (p .entry))) ⌝ }
 {
     let run = number_at(p, 11, 8);
@@ -105,14 +104,13 @@ fn start_atten_char_ind(p: &[u8], dst: u64, src: u64) -> ReadAnswer
 }
 
 fn mnbc_sound_ind(p: &[u8], dst: u64, src: u64) -> ReadAnswer
-    requires { ⌜ payloadSize mnbcSoundInd ≤ length (now p) ⌝ }
     ensures { λ r. ⌜ Reads r (payloadRules mnbcSoundInd dst src (now (p .entry))) ⌝ }
 {
     let count = octet_at(p, 19);
     let run = number_at(p, 20, 8);
     let random = Random(number_at(p, 36, 8), number_at(p, 44, 8));
     let addresses = is_unicast(src) & (dst == BROADCAST);
-    let fixed = is_zero(p, 0, 2) & is_zero(p, 2, 17) & is_zero(p, 28, 8);
+    let fixed = is_zero(p, 0, 2) & is_zero(p, 2, 17);
     decide(
         addresses,
         fixed,
@@ -126,7 +124,6 @@ fn mnbc_sound_ind(p: &[u8], dst: u64, src: u64) -> ReadAnswer
 }
 
 fn atten_char_ind(p: &[u8], dst: u64, src: u64) -> ReadAnswer
-    requires { ⌜ payloadSize attenCharInd ≤ length (now p) ⌝ }
     ensures { λ r. ⌜ Reads r (payloadRules attenCharInd dst src (now (p .entry))) ⌝ }
 {
     let run = number_at(p, 8, 8);
@@ -149,7 +146,6 @@ fn atten_char_ind(p: &[u8], dst: u64, src: u64) -> ReadAnswer
 }
 
 fn atten_char_rsp(p: &[u8], dst: u64, src: u64) -> ReadAnswer
-    requires { ⌜ payloadSize attenCharRsp ≤ length (now p) ⌝ }
     ensures { λ r. ⌜ Reads r (payloadRules attenCharRsp dst src (now (p .entry))) ⌝ }
 {
     let run = number_at(p, 8, 8);
@@ -170,12 +166,11 @@ fn atten_char_rsp(p: &[u8], dst: u64, src: u64) -> ReadAnswer
 }
 
 fn atten_profile_ind(p: &[u8], dst: u64, src: u64) -> ReadAnswer
-    requires { ⌜ payloadSize attenProfileInd ≤ length (now p) ⌝ }
     ensures { λ r. ⌜ Reads r (payloadRules attenProfileInd dst src (now (p .entry))) ⌝ }
 {
     let car = number_at(p, 0, 6);
     let addresses = is_unicast(src) & is_unicast(dst) & is_unicast(car);
-    let fixed = (number_at(p, 6, 1) == 0x3A) & is_zero(p, 7, 1);
+    let fixed = number_at(p, 6, 1) == 0x3A;
     decide(
         addresses,
         fixed,
@@ -187,9 +182,8 @@ fn atten_profile_ind(p: &[u8], dst: u64, src: u64) -> ReadAnswer
     )
 }
 
-// Whether octets 0-65 of a match message are right but for the RunID: MVFLength, the car and the station, zeros.
+// Whether octets 0-65 of a match message are right but for the RunID: MVFLength, the car and the station, zero identifiers.
 fn is_match(p: &[u8], mvflength: u64, car: u64, station: u64) -> bool
-    requires { ⌜ size (matchFields mvflength car station []) ≤ length (now p) ⌝ }
     ensures { λ r. ⌜ r ≡ holds 0 (matchFields mvflength car station []) (now (p .entry)) ⌝ }
 {
     is_zero(p, 0, 2)
@@ -198,11 +192,9 @@ fn is_match(p: &[u8], mvflength: u64, car: u64, station: u64) -> bool
         & (number_at(p, 21, 6) == car)
         & is_zero(p, 27, 17)
         & (number_at(p, 44, 6) == station)
-        & is_zero(p, 58, 8)
 }
 
 fn slac_match_req(p: &[u8], dst: u64, src: u64) -> ReadAnswer
-    requires { ⌜ payloadSize slacMatchReq ≤ length (now p) ⌝ }
     ensures { λ r. ⌜ Reads r (payloadRules slacMatchReq dst src (now (p .entry))) ⌝ }
 {
     let run = number_at(p, 50, 8);
@@ -220,14 +212,13 @@ fn slac_match_req(p: &[u8], dst: u64, src: u64) -> ReadAnswer
 }
 
 fn slac_match_cnf(p: &[u8], dst: u64, src: u64) -> ReadAnswer
-    requires { ⌜ payloadSize slacMatchCnf ≤ length (now p) ⌝ }
     ensures { λ r. ⌜ Reads r (payloadRules slacMatchCnf dst src (now (p .entry))) ⌝ }
 {
     let run = number_at(p, 50, 8);
     let nid = low_number_at(p, 66, 7);
     let nmk = Nmk(number_at(p, 74, 8), number_at(p, 82, 8));
     let addresses = is_unicast(src) & is_unicast(dst);
-    let fixed = is_match(p, 0x5600, dst, src) & (nid < NID_LIMIT) & is_zero(p, 73, 1);
+    let fixed = is_match(p, 0x5600, dst, src) & (nid < NID_LIMIT);
     decide(
         addresses,
         fixed,
@@ -241,23 +232,70 @@ fn slac_match_cnf(p: &[u8], dst: u64, src: u64) -> ReadAnswer
     )
 }
 
-// Reads the payload of a frame of this kind.
+// The destination in a frame's head.
+fn destination(frame: &[u8]) -> u64
+    ensures { λ r. ⌜ r ≡ value (now (frame .entry)) 0 6 ⌝ }
+{
+    number_at(frame, 0, 6)
+}
+
+// The source in a frame's head.
+fn source(frame: &[u8]) -> u64
+    ensures { λ r. ⌜ r ≡ value (now (frame .entry)) 6 6 ⌝ }
+{
+    number_at(frame, 6, 6)
+}
+
+// Reads the payload of a frame of this kind: the part that the kind's row of the table says.
 pub(crate) fn body(frame: &[u8], kind: Kind) -> ReadAnswer
     requires { ⌜ filledSize (kindOf kind) ≤ length (now frame) ⌝ }
     ensures { λ r. ⌜ Reads r (frameRules (yes (kindOf kind)) (now (frame .entry))) ⌝ }
 {
-    let dst = number_at(frame, 0, 6);
-    let src = number_at(frame, 6, 6);
-    let p = &frame[HEAD..];
     match kind {
-        Kind::SlacParmReq => slac_parm_req(p, dst, src),
-        Kind::SlacParmCnf => slac_parm_cnf(p, dst, src),
-        Kind::StartAttenCharInd => start_atten_char_ind(p, dst, src),
-        Kind::AttenCharInd => atten_char_ind(p, dst, src),
-        Kind::AttenCharRsp => atten_char_rsp(p, dst, src),
-        Kind::MnbcSoundInd => mnbc_sound_ind(p, dst, src),
-        Kind::SlacMatchReq => slac_match_req(p, dst, src),
-        Kind::SlacMatchCnf => slac_match_cnf(p, dst, src),
-        Kind::AttenProfileInd => atten_profile_ind(p, dst, src),
+        Kind::SlacParmReq => slac_parm_req(
+            &frame[HEAD..HEAD + 10],
+            destination(frame),
+            source(frame),
+        ),
+        Kind::SlacParmCnf => slac_parm_cnf(
+            &frame[HEAD..HEAD + 25],
+            destination(frame),
+            source(frame),
+        ),
+        Kind::StartAttenCharInd => start_atten_char_ind(
+            &frame[HEAD..HEAD + 19],
+            destination(frame),
+            source(frame),
+        ),
+        Kind::AttenCharInd => atten_char_ind(
+            &frame[HEAD..HEAD + 52 + GROUPS],
+            destination(frame),
+            source(frame),
+        ),
+        Kind::AttenCharRsp => atten_char_rsp(
+            &frame[HEAD..HEAD + 51],
+            destination(frame),
+            source(frame),
+        ),
+        Kind::MnbcSoundInd => mnbc_sound_ind(
+            &frame[HEAD..HEAD + 52],
+            destination(frame),
+            source(frame),
+        ),
+        Kind::SlacMatchReq => slac_match_req(
+            &frame[HEAD..HEAD + 66],
+            destination(frame),
+            source(frame),
+        ),
+        Kind::SlacMatchCnf => slac_match_cnf(
+            &frame[HEAD..HEAD + 90],
+            destination(frame),
+            source(frame),
+        ),
+        Kind::AttenProfileInd => atten_profile_ind(
+            &frame[HEAD..HEAD + 8 + GROUPS],
+            destination(frame),
+            source(frame),
+        ),
     }
 }

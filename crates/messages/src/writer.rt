@@ -1,27 +1,27 @@
 // Writing a frame: what is tested first, and a function for each message's payload. Places are those of document 01's payload octets.
 use crate::BROADCAST;
+use crate::GROUPS;
 use crate::GroupValues;
 use crate::Message;
 use crate::NID_LIMIT;
 use crate::Nid;
 use crate::Nmk;
 use crate::Random;
+use crate::group_values::put_groups;
 use crate::is_unicast;
 use crate::kinds::HEAD;
 use crate::kinds::Kind;
 use crate::kinds::filled_size;
 use crate::kinds::type_number;
 use crate::kinds::written_size;
-use crate::runs::put_groups;
-use crate::runs::put_low_number;
-use crate::runs::put_number;
-use crate::runs::wide;
+use octets::put_low_number;
+use octets::put_number;
 ghost use mathlib.Core.Path.{_≡_};
 ghost use mathlib.Core.List.{List, []};
 ghost use Prim.Native.Nat.{ℕ, _≤_};
 ghost use lib.ListN.{length};
 ghost use lib.Seq.{sets};
-ghost use Rattle.messages.specs.Layout.{size, encode};
+ghost use Rattle.messages.specs.Layout.{encode};
 ghost use Rattle.messages.specs.Table.{slacParmReq, slacParmCnf, startAttenCharInd, attenCharInd, attenCharRsp, mnbcSoundInd, slacMatchCnf, attenProfileInd, typeOf, payloadSize, writtenSize, groupCount, matchFields, payload};
 ghost use Rattle.messages.specs.Table;
 ghost use Rattle.messages.specs.Writing.{payloadOctets, frame};
@@ -126,7 +126,6 @@ pub(crate) fn head_of(message: Message) -> Head
 
 // Writes the 19 octets before the payload.
 fn put_head(out: &mut [u8], head: Head)
-    requires { ⌜ size Table.head ≤ length (now out) ⌝ }
     ensures { λ _. ⌜ now (out .exit) ≡ sets (now (out .entry)) 0 (encode Table.head (head .dst, (head .src, (typeOf (kindOf (head .kind)), tt)))) ⌝ }
 {
     let kind = head.kind;
@@ -138,7 +137,6 @@ fn put_head(out: &mut [u8], head: Head)
 }
 
 fn put_slac_parm_req(out: &mut [u8], run: u64)
-    requires { ⌜ payloadSize slacParmReq ≤ length (now out) ⌝ }
     ensures { λ _. ⌜ ((d f : ℕ) → now (out .exit) ≡ sets (now (out .entry)) 0 (encode (payload slacParmReq d f) (run, tt))) ⌝ }
 {
     put_number(out, 0, 2, 0);
@@ -146,7 +144,6 @@ fn put_slac_parm_req(out: &mut [u8], run: u64)
 }
 
 fn put_slac_parm_cnf(out: &mut [u8], car: u64, run: u64)
-    requires { ⌜ payloadSize slacParmCnf ≤ length (now out) ⌝ }
     ensures { λ _. ⌜ ((f : ℕ) → now (out .exit) ≡ sets (now (out .entry)) 0 (encode (payload slacParmCnf car f) (run, tt))) ⌝ }
 {
     put_number(out, 0, 6, BROADCAST);
@@ -159,7 +156,6 @@ fn put_slac_parm_cnf(out: &mut [u8], car: u64, run: u64)
 }
 
 fn put_start_atten_char_ind(out: &mut [u8], car: u64, run: u64)
-    requires { ⌜ payloadSize startAttenCharInd ≤ length (now out) ⌝ }
     ensures { λ _. ⌜ ((d : ℕ) → now (out .exit) ≡ sets (now (out .entry)) 0 (encode (payload startAttenCharInd d car) (run, tt))) ⌝ }
 {
     put_number(out, 0, 2, 0);
@@ -171,12 +167,11 @@ fn put_start_atten_char_ind(out: &mut [u8], car: u64, run: u64)
 }
 
 fn put_mnbc_sound_ind(out: &mut [u8], count: u8, run: u64, random: Random)
-    requires { ⌜ payloadSize mnbcSoundInd ≤ length (now out) ⌝ }
     ensures { λ _. ⌜ ((d f : ℕ) → now (out .exit) ≡ sets (now (out .entry)) 0 (encode (payload mnbcSoundInd d f) (count, (run, (random .0, (random .1, tt)))))) ⌝ }
 {
     put_number(out, 0, 2, 0);
     put_number(out, 2, 17, 0);
-    put_number(out, 19, 1, wide(count));
+    put_number(out, 19, 1, count as u64);
     put_number(out, 20, 8, run);
     put_number(out, 28, 8, 0);
     put_number(out, 36, 8, random.0);
@@ -184,20 +179,18 @@ fn put_mnbc_sound_ind(out: &mut [u8], count: u8, run: u64, random: Random)
 }
 
 fn put_atten_char_ind(out: &mut [u8], car: u64, run: u64, sounds: u8, groups: GroupValues)
-    requires { ⌜ payloadSize attenCharInd ≤ length (now out) ⌝ }
     ensures { λ _. ⌜ ((f : ℕ) → now (out .exit) ≡ sets (now (out .entry)) 0 (encode (payload attenCharInd car f) (run, (sounds, (groups, tt))))) ⌝ }
 {
     put_number(out, 0, 2, 0);
     put_number(out, 2, 6, car);
     put_number(out, 8, 8, run);
     put_number(out, 16, 34, 0);
-    put_number(out, 50, 1, wide(sounds));
+    put_number(out, 50, 1, sounds as u64);
     put_number(out, 51, 1, 0x3A);
     put_groups(out, 52, groups);
 }
 
 fn put_atten_char_rsp(out: &mut [u8], car: u64, run: u64)
-    requires { ⌜ payloadSize attenCharRsp ≤ length (now out) ⌝ }
     ensures { λ _. ⌜ ((d : ℕ) → now (out .exit) ≡ sets (now (out .entry)) 0 (encode (payload attenCharRsp d car) (run, tt))) ⌝ }
 {
     put_number(out, 0, 2, 0);
@@ -208,7 +201,6 @@ fn put_atten_char_rsp(out: &mut [u8], car: u64, run: u64)
 }
 
 fn put_atten_profile_ind(out: &mut [u8], car: u64, groups: GroupValues)
-    requires { ⌜ payloadSize attenProfileInd ≤ length (now out) ⌝ }
     ensures { λ _. ⌜ ((d f : ℕ) → now (out .exit) ≡ sets (now (out .entry)) 0 (encode (payload attenProfileInd d f) (car, (groups, tt)))) ⌝ }
 {
     put_number(out, 0, 6, car);
@@ -219,7 +211,6 @@ fn put_atten_profile_ind(out: &mut [u8], car: u64, groups: GroupValues)
 
 // Writes octets 0-65 of a match message.
 fn put_match(out: &mut [u8], mvflength: u64, car: u64, station: u64, run: u64)
-    requires { ⌜ size (matchFields mvflength car station []) ≤ length (now out) ⌝ }
     ensures { λ _. ⌜ now (out .exit) ≡ sets (now (out .entry)) 0 (encode (matchFields mvflength car station []) (run, tt)) ⌝ }
 {
     put_number(out, 0, 2, 0);
@@ -233,7 +224,6 @@ fn put_match(out: &mut [u8], mvflength: u64, car: u64, station: u64, run: u64)
 }
 
 fn put_slac_match_cnf(out: &mut [u8], car: u64, station: u64, run: u64, nid: Nid, nmk: Nmk)
-    requires { ⌜ payloadSize slacMatchCnf ≤ length (now out) ⌝ }
     ensures { λ _. ⌜ now (out .exit) ≡ sets (now (out .entry)) 0 (encode (payload slacMatchCnf car station) (run, (nid .0, (nmk .0, (nmk .1, tt))))) ⌝ }
 {
     put_match(out, 0x5600, car, station, run);
@@ -243,38 +233,42 @@ fn put_slac_match_cnf(out: &mut [u8], car: u64, station: u64, run: u64, nid: Nid
     put_number(out, 82, 8, nmk.1);
 }
 
-// Writes the payload of a message.
+// Writes the payload of a message, in the part that its row of the table says.
 fn put_payload(out: &mut [u8], message: Message, groups: GroupValues)
     requires { ⌜ payloadSize (messageOf message groups .kind) ≤ length (now out) ⌝ }
     ensures { λ _. ⌜ now (out .exit) ≡ sets (now (out .entry)) 0 (payloadOctets (messageOf message groups)) ⌝ }
 {
     match message {
-        Message::SlacParmReq { car: _, run } => put_slac_parm_req(out, run.0),
+        Message::SlacParmReq { car: _, run } => put_slac_parm_req(&mut out[0..10], run.0),
         Message::SlacParmCnf {
             station: _,
             car,
             run,
-        } => put_slac_parm_cnf(out, car.0, run.0),
-        Message::StartAttenCharInd { car, run } => put_start_atten_char_ind(out, car.0, run.0),
+        } => put_slac_parm_cnf(&mut out[0..25], car.0, run.0),
+        Message::StartAttenCharInd { car, run } => put_start_atten_char_ind(
+            &mut out[0..19],
+            car.0,
+            run.0,
+        ),
         Message::AttenCharInd {
             station: _,
             car,
             run,
             sounds,
-        } => put_atten_char_ind(out, car.0, run.0, sounds, groups),
+        } => put_atten_char_ind(&mut out[0..52 + GROUPS], car.0, run.0, sounds, groups),
         Message::AttenCharRsp {
             car,
             station: _,
             run,
-        } => put_atten_char_rsp(out, car.0, run.0),
+        } => put_atten_char_rsp(&mut out[0..51], car.0, run.0),
         Message::MnbcSoundInd {
             car: _,
             count,
             run,
             random,
-        } => put_mnbc_sound_ind(out, count, run.0, random),
+        } => put_mnbc_sound_ind(&mut out[0..52], count, run.0, random),
         Message::SlacMatchReq { car, station, run } => put_match(
-            out,
+            &mut out[0..66],
             0x3E00,
             car.0,
             station.0,
@@ -286,12 +280,12 @@ fn put_payload(out: &mut [u8], message: Message, groups: GroupValues)
             run,
             nid,
             nmk,
-        } => put_slac_match_cnf(out, car.0, station.0, run.0, nid, nmk),
+        } => put_slac_match_cnf(&mut out[0..90], car.0, station.0, run.0, nid, nmk),
         Message::AttenProfileInd {
             modem: _,
             station: _,
             car,
-        } => put_atten_profile_ind(out, car.0, groups),
+        } => put_atten_profile_ind(&mut out[0..8 + GROUPS], car.0, groups),
     }
 }
 
@@ -303,7 +297,7 @@ pub(crate) fn put_frame(out: &mut [u8], head: Head, message: Message, groups: Gr
     let kind = head.kind;
     let filled = filled_size(kind);
     let written = written_size(kind);
-    put_head(out, head);
-    put_payload(&mut out[HEAD..], message, groups);
-    put_number(out, filled, written - filled, 0);
+    put_head(&mut out[0..HEAD], head);
+    put_payload(&mut out[HEAD..filled], message, groups);
+    put_number(&mut out[filled..written], 0, written - filled, 0);
 }

@@ -1,15 +1,15 @@
 -- The steps of the loops over a run of octets, each once over the length.
-use Prim.Native.Nat.{ℕ, suc, _+_, _*_, _-_, _^_, _/_, _%_, _<_, _≤_}
+use Prim.Native.Nat.{ℕ, zero, suc, _+_, _*_, _-_, _^_, _/_, _%_, _<_, _≤_, min}
 use mathlib.Core.Path.{_≡_, refl, sym, ap, ap₂, _∙_}
-use mathlib.Core.Bool.{Bool, true, false}
+use mathlib.Core.Bool.{Bool, true, false, _&&_, and-true}
 use mathlib.Core.List.{List, [], _∷_, _++_}
 use native.Mathlib.Omega.{arith}
 use native.Mathlib.Numerals.{add-one}
-use native.Mathlib.Nat.{pow-le-pow-right, lt-of-lt-of-le}
-use borrow.Author.Tests.{eq-eqb, ne-eqb, eqb-true, eqb-false}
-use lib.Dec.{eqb}
-use lib.ListN.{length, getD, take, drop, set, length-drop}
-use lib.Seq.{sets, length-take-le, take-suc, take-suc-set, getD-drop, set-comm}
+use native.Mathlib.Nat.{add-zero, pow-zero, pow-suc, one-le-pow, pow-le-pow-right, lt-of-lt-of-le}
+use borrow.Author.Tests.{eq-eqb, ne-eqb, leb-true, leb-false}
+use lib.Dec.{eqb, leb}
+use lib.ListN.{length, getD, take, drop, set, length-drop, List·getD-eq-default}
+use lib.Seq.{sets, length-take-le, take-suc, take-all, getD-drop, set-comm}
 use Rattle.octets.specs.Octets.{value, bytes, lowValue, lowBytes, part, Octets}
 use Rattle.octets.proofs.OctetLaws.{length-bytes, value-lt, low-lt, sets-append}
 
@@ -51,27 +51,51 @@ low-more s at i n h k =
 pub low-room : (s : List ℕ) (at i n : ℕ) → Octets s → 0 < i → i ≤ n → n ≤ 8 → lowValue s (at + i) (n - i) < 2 ^ 56
 low-room s at i n o h k l = room (lowValue s (at + i) (n - i)) (n - i) n (low-lt s (at + i) (n - i) o) (omega arith) l
 
+-- two runs side by side
+pub value-joined : (s : List ℕ) (at m n : ℕ) → value s at (m + n) ≡ value s at m * 256 ^ n + value s (at + m) n
+unfolding value
+value-joined s at m zero = rw (add-zero, pow-zero) (omega arith)
+value-joined s at m (suc n) =
+    let e : m + suc n ≡ suc (m + n) = omega arith in
+    let f : at + (m + n) ≡ at + m + n = omega arith in
+    rw (e, f, pow-suc) (omega (arith, value-joined s at m n))
+
+-- past the end there is 0
+pub value-past : (s : List ℕ) (at n : ℕ) → length s ≤ at → value s at n ≡ 0
+unfolding value
+value-past s at zero h = refl
+value-past s at (suc n) h = omega (arith, value-past s at n h, let e : getD s (at + n) 0 ≡ 0 = List·getD-eq-default s 0 (omega arith) in e)
+
 -- ---- testing a run of zeros
 
--- the sum so far is zero where the number so far is, and the same with one octet more
-abbrev pub Both : ℕ → ℕ → Type 0
-Both t v = (t ≡ 0 → v ≡ 0) × (v ≡ 0 → t ≡ 0)
+-- a sum is zero where both its parts are
+zero-sum : (a b p : ℕ) → 1 ≤ p → eqb (a * p + b) 0 ≡ (eqb a 0 && eqb b 0)
+zero-sum zero zero p h = eq-eqb (0 * p + 0) 0 (omega arith)
+zero-sum zero (suc b) p h = ne-eqb (0 * p + suc b) 0 (λ (z : 0 * p + suc b ≡ 0). omega arith) ∙ sym (ne-eqb (suc b) 0 (λ (z : suc b ≡ 0). omega arith))
+zero-sum (suc a) b p h = ne-eqb (suc a * p + b) 0 (λ (z : suc a * p + b ≡ 0). omega arith) ∙ sym (ap (λ (t : Bool). t && eqb b 0) (ne-eqb (suc a) 0 (λ (z : suc a ≡ 0). omega arith)))
 
-pub zero-none : (s : List ℕ) (at : ℕ) → Both 0 (value s at 0)
-zero-none s at = ((λ z. value-none s at), (λ z. refl))
+pub zero-joined : (s : List ℕ) (at m n : ℕ) → eqb (value s at (m + n)) 0 ≡ (eqb (value s at m) 0 && eqb (value s (at + m) n) 0)
+zero-joined s at m n = ap (λ (v : ℕ). eqb v 0) (value-joined s at m n) ∙ zero-sum (value s at m) (value s (at + m) n) (256 ^ n) (one-le-pow n 256 (omega arith))
 
-pub zero-more : (s : List ℕ) (at i t b : ℕ) → b ≡ getD s (at + i) 0 → Both t (value s at i) → Both (t + b) (value s at (i + 1))
-zero-more s at i t b e f = (
-  (λ z. let p : t ≡ 0 = omega arith in let q : value s at i ≡ 0 = f .0 p in omega (arith, value-more s at i)),
-  (λ z. let q : value s at i ≡ 0 = omega (arith, value-more s at i) in let p : t ≡ 0 = f .1 q in omega (arith, value-more s at i)),
-)
+-- one octet more
+pub zero-more : (s : List ℕ) (at i : ℕ) → eqb (value s at (i + 1)) 0 ≡ (eqb (value s at i) 0 && eqb (getD s (at + i) 0) 0)
+zero-more s at i = zero-joined s at i 1 ∙ ap (λ (v : ℕ). eqb (value s at i) 0 && eqb v 0) (sym (value-one s (at + i)))
 
-pub both-zero : (t v : ℕ) → Both t v → eqb t 0 ≡ eqb v 0
-both-zero t v f = go (eqb t 0) refl
+-- the octets past the end do not matter
+pub zero-within : (s : List ℕ) (at n : ℕ) → eqb (value s at (min n (length s - at))) 0 ≡ eqb (value s at n) 0
+zero-within s at n = go (leb n room) refl
   where
-    go : (x : Bool) → eqb t 0 ≡ x → x ≡ eqb v 0
-    go true q = sym (eq-eqb v 0 (f .0 (eqb-true t 0 q)))
-    go false q = sym (ne-eqb v 0 (λ (z : v ≡ 0). eqb-false t 0 q (f .1 z)))
+    room : ℕ
+    room = length s - at
+
+    go : (b : Bool) → leb n room ≡ b → eqb (value s at (min n room)) 0 ≡ eqb (value s at n) 0
+    go true e = let h : n ≤ room = leb-true n room e in ap (λ (k : ℕ). eqb (value s at k) 0) (let k : min n room ≡ n = omega arith in k)
+    go false e =
+        let h : room < n = leb-false n room e in
+        let k : min n room ≡ room = omega arith in
+        let m : n ≡ room + (n - room) = omega arith in
+        ap (λ (k : ℕ). eqb (value s at k) 0) k
+        ∙ sym (ap (λ (k : ℕ). eqb (value s at k) 0) m ∙ zero-joined s at room (n - room) ∙ ap (λ (v : ℕ). eqb (value s at room) 0 && eqb v 0) (value-past s (at + room) (n - room) (omega arith)) ∙ and-true (eqb (value s at room) 0))
 
 -- ---- writing a number
 
@@ -109,7 +133,7 @@ put-low-more out at i n w h =
 
 -- ---- copying
 
--- one octet more of a copy into a slice
+-- one element more of a copy
 pub copy-in-more : (src out : List ℕ) (at i : ℕ) → i < length src → set (sets out at (take i src)) (at + i) (getD src i 0) ≡ sets out at (take (i + 1) src)
 copy-in-more src out at i h =
     ap (λ (k : ℕ). set (sets out at (take i src)) (at + k) (getD src i 0)) (sym (length-take-le i src (omega arith)))
@@ -117,12 +141,19 @@ copy-in-more src out at i h =
     ∙ ap (λ (l : List ℕ). sets out at l) (sym (take-suc src i 0 h))
     ∙ ap (λ (k : ℕ). sets out at (take k src)) (sym (add-one i))
 
--- one octet more of a part that is copied out
-pub copy-out-more : (g s : List ℕ) (at i : ℕ) → i < length g → at + i < length s → take i g ≡ part s at i
-    → take (i + 1) (set g i (getD s (at + i) 0)) ≡ part s at (i + 1)
-copy-out-more g s at i h k e =
-    ap (λ (m : ℕ). take m (set g i (getD s (at + i) 0))) (add-one i)
-    ∙ take-suc-set g i (getD s (at + i) 0) h
-    ∙ ap₂ (λ (a : List ℕ) (b : ℕ). a ++ (b ∷ [])) e (sym (getD-drop at s i 0))
-    ∙ sym (take-suc (drop at s) i 0 (rw length-drop (omega arith)))
-    ∙ ap (λ (m : ℕ). take m (drop at s)) (sym (add-one i))
+-- and of a part
+pub copy-more : (src out : List ℕ) (from at i : ℕ) → from + i < length src
+    → set (sets out at (part src from i)) (at + i) (getD src (from + i) 0) ≡ sets out at (part src from (i + 1))
+copy-more src out from at i h =
+    ap (set (sets out at (part src from i)) (at + i)) (sym (getD-drop from src i 0))
+    ∙ copy-in-more (drop from src) out at i (rw length-drop (omega arith))
+
+-- the octets past the end are none
+pub part-within : (s : List ℕ) (at n : ℕ) → part s at (min n (length s - at)) ≡ part s at n
+part-within s at n = go (leb n (length s - at)) refl
+  where
+    go : (b : Bool) → leb n (length s - at) ≡ b → part s at (min n (length s - at)) ≡ part s at n
+    go true e = let h : n ≤ length s - at = leb-true n (length s - at) e in ap (part s at) (let k : min n (length s - at) ≡ n = omega arith in k)
+    go false e =
+        let h : length s - at < n = leb-false n (length s - at) e in
+        take-all (min n (length s - at)) (drop at s) (rw length-drop (omega arith)) ∙ sym (take-all n (drop at s) (rw length-drop (omega arith)))

@@ -4,8 +4,8 @@ use mathlib.Core.Path.{_≡_, refl, sym, ap, ap₂, _∙_, subst}
 use mathlib.Core.List.{List, [], _∷_, _++_, append-assoc, append-nil}
 use native.Mathlib.Omega.{arith}
 use native.Mathlib.Nat.{add-zero, pow-suc, pow-zero, div-lt-iff-lt-mul, div-add-mod'}
-use lib.ListN.{length, getD, take, drop, replicate, set, length-append, length-drop, drop-of-length-le, replicate-append-replicate}
-use lib.Seq.{drop-cons, getD-append-seam, getD-append-add, sets, sets-eq, take-suc, take-all, getD-drop}
+use lib.ListN.{length, getD, take, drop, replicate, set, length-append, length-drop, take-append-drop, drop-of-length-le, replicate-append-replicate}
+use lib.Seq.{drop-cons, getD-append-seam, getD-append-add, sets, sets-eq, take-suc, take-all, take-take, length-take-le, drop-append-le, getD-drop, getD-take}
 use borrow.Rule.Slice.PartMut.{putMid}
 use Rattle.octets.specs.Octets.{value, bytes, lowValue, lowBytes, part, Octets, splice}
 
@@ -98,6 +98,25 @@ low-bytes-value (suc n) at s o h =
     ∙ ap (λ (l : List ℕ). x ∷ l) (low-bytes-value n (suc at) s o (omega arith))
     ∙ ap (λ (l : List ℕ). take (suc n) l) (sym (drop-cons s at 0 (omega arith)))
 
+-- ---- the first octets of a longer run
+
+module _ (k : ℕ) (s : List ℕ) where
+  pub value-take : (at n : ℕ) → at + n ≤ k → value (take k s) at n ≡ value s at n
+  unfolding value
+  value-take at zero h = refl
+  value-take at (suc n) h = ap₂ (λ (a b : ℕ). a * 256 + b) (value-take at n (omega arith)) (getD-take k s (at + n) 0 (omega arith))
+
+  pub low-take : (at n : ℕ) → at + n ≤ k → lowValue (take k s) at n ≡ lowValue s at n
+  unfolding lowValue
+  low-take at zero h = refl
+  low-take at (suc n) h = ap₂ (λ (a b : ℕ). a * 256 + b) (low-take (suc at) n (omega arith)) (getD-take k s at 0 (omega arith))
+
+pub part-take : (k : ℕ) (s : List ℕ) (at n : ℕ) → at + n ≤ k → part (take k s) at n ≡ part s at n
+part-take k s zero n h = take-take n k s (omega arith)
+part-take zero s (suc at) n h = absurd (omega arith)
+part-take (suc k) [] (suc at) n h = refl
+part-take (suc k) (x ∷ s) (suc at) n h = part-take k s at n (omega arith)
+
 -- ---- parts and stores
 
 -- the octets behind the first n of a list are octets
@@ -113,6 +132,14 @@ sets-append (x ∷ a) b l i = sets-append a b (set l i x) (suc i) ∙ ap (λ (k 
 pub sets-splice : (ws l : List ℕ) (at : ℕ) → at + length ws ≤ length l → sets l at ws ≡ splice at ws l
 unfolding splice
 sets-splice ws l at h = sets-eq ws l at h ∙ append-assoc (take at l) ws (drop (at + length ws) l)
+
+-- stores in every place leave nothing of what was there
+pub sets-whole : (ws l : List ℕ) → length ws ≡ length l → sets l 0 ws ≡ ws
+unfolding splice
+sets-whole ws l h =
+    sets-splice ws l 0 (omega arith)
+    ∙ ap (λ (t : List ℕ). ws ++ t) (drop-of-length-le l {i = 0 + length ws} (omega arith))
+    ∙ append-nil ws
 
 -- stores behind the first octet, and in a part that starts anywhere
 sets-behind : (ws l : List ℕ) (x i : ℕ) → sets (x ∷ l) (suc i) ws ≡ x ∷ sets l i ws
@@ -131,12 +158,17 @@ sets-part (suc a) (x ∷ l) ws i h =
 pub lent-part : (n : ℕ) (l : List ℕ) → take (length l - n) (drop n l) ≡ drop n l
 lent-part n l = take-all (length l - n) (drop n l) (rw length-drop (omega arith))
 
--- stores in that part, once it is back in its place
-pub sets-lent : (a : ℕ) (l ws : List ℕ) → a ≤ length l → putMid a (length l - a) l (sets (take (length l - a) (drop a l)) 0 ws) ≡ sets l a ws
-sets-lent a l ws h =
-    let none : drop (length l - a) (drop a l) ≡ [] = drop-of-length-le (drop a l) {i = length l - a} (rw length-drop (omega arith)) in
-    let place : a + 0 ≡ a = omega arith in
-    ap₂ (λ (p q : List ℕ). take a l ++ (sets p 0 ws ++ q)) (lent-part a l) none
-    ∙ ap (λ (p : List ℕ). take a l ++ p) (append-nil (sets (drop a l) 0 ws))
-    ∙ sets-part a l ws 0 h
-    ∙ ap (λ (k : ℕ). sets l k ws) place
+-- stores in a part of n octets from a, once it is back in its place
+pub sets-lent : (a n : ℕ) (l ws : List ℕ) → a + n ≤ length l → length ws ≤ n → putMid a n l (sets (take n (drop a l)) 0 ws) ≡ sets l a ws
+unfolding splice
+sets-lent a n l ws h k =
+    let d : List ℕ = drop a l in
+    let m : length (take n d) ≡ n = length-take-le n d (rw length-drop (omega arith)) in
+    let w : 0 + length ws ≤ length (take n d) = omega (arith, m) in
+    ap (λ (p : List ℕ). take a l ++ p)
+    (ap (λ (p : List ℕ). p ++ drop n d) (sets-splice ws (take n d) 0 w)
+    ∙ append-assoc ws (drop (0 + length ws) (take n d)) (drop n d)
+    ∙ ap (λ (p : List ℕ). ws ++ p) (sym (drop-append-le (0 + length ws) (take n d) (drop n d) w) ∙ ap (drop (0 + length ws)) (take-append-drop n d))
+    ∙ sym (sets-splice ws d 0 (rw length-drop (omega arith))))
+    ∙ sets-part a l ws 0 (omega arith)
+    ∙ ap (λ (k : ℕ). sets l k ws) (let e : a + 0 ≡ a = omega arith in e)

@@ -4,7 +4,7 @@ use mathlib.Core.Bool.{_&&_}
 use mathlib.Core.List.{List, [], _∷_}
 use mathlib.Core.Option.{Option, some}
 use lib.Dec.{eqb, ltb}
-use lib.ListN.{length, getD}
+use lib.ListN.{length}
 use Rattle.messages.specs.declared.CarAddress.{CarAddress}
 use Rattle.messages.specs.declared.ModemAddress.{ModemAddress}
 use Rattle.messages.specs.declared.Nid.{Nid}
@@ -46,7 +46,7 @@ Event = events.Event Call CarAddress
 
 -- a pilot event's octets: one, the number of the pilot state, 0 to 5 for A to F
 abbrev pub pilotIn : ℕ → List ℕ → Option Event
-pilotIn t s = given (eqb (length s) 1 && ltb (getD s 0 0) 6) (call (pilot (pilotOf (getD s 0 0)) t))
+pilotIn t s = given (eqb (length s) 1 && ltb (value s 0 1) 6) (call (pilot (pilotOf (value s 0 1)) t))
 
 -- a service query's octets: six, the car's address
 abbrev pub queryIn : List ℕ → Option Event

@@ -70,7 +70,7 @@ fn pilot(station: Station, reading: u32, octets: &[u8], out: &mut [u8]) -> Happe
     requires { ⌜ Ready (Invariant station) (now out) ⌝ }
     ensures { λ r. ⌜ Happens station (pilotIn reading (now (octets .entry))) (now (out .entry)) (now (out .exit)) r ⌝ }
 {
-    let n = octets::octet_at(octets, 0);
+    let n = octets::number_at(octets, 0, 1);
     if !((octets.len() == 1) & (n < 6)) {
         return nothing(station);
     }

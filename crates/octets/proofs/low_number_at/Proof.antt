@@ -40,7 +40,7 @@ add-v c =
     let a = c .before .before .before .before .before .args in
     let l = c .before .before .loop in
     let known = c .before .before .before .before .shared-slice-known .given in
-    omega (arith, l .inv .1, c .octet-behind .ensures, known (a .at + (l .i - 1)), low-room (a .s .now) (a .at) (l .i) (min (a .n) 8) (λ i. known i .fits) (omega arith) (l .inv .0) (omega arith))
+    omega (arith, l .inv .1, c .octet-behind .ensures .1, low-room (a .s .now) (a .at) (l .i) (min (a .n) 8) (λ i. known i .fits) (omega arith) (l .inv .0) (omega arith))
 
 loop-less : tie.Need-loop-less Inv-loop μ-loop
 loop-less c = search needs
@@ -49,7 +49,7 @@ loop-again : tie.Need-loop-again Inv-loop μ-loop
 loop-again c =
     let a = c .before .before .before .before .before .args in
     let l = c .before .before .loop in
-    (omega (arith, l .inv .0), ap₂ (λ (x y : ℕ). x * 256 + y) (l .inv .1) (c .octet-behind .ensures) ∙ low-more (a .s .now) (a .at) (l .i) (min (a .n) 8) (omega arith) (l .inv .0))
+    (omega (arith, l .inv .0), ap₂ (λ (x y : ℕ). x * 256 + y) (l .inv .1) (c .octet-behind .ensures .0) ∙ low-more (a .s .now) (a .at) (l .i) (min (a .n) 8) (omega arith) (l .inv .0))
 
 returns : tie.Need-returns Inv-loop μ-loop
 returns c =

@@ -1,70 +1,76 @@
--- `octets::number_at` meets its contract: the number of the octets passed so far.
-use Prim.Native.Nat.{ℕ, _+_, _*_, _-_, _≤_}
-use borrow.Author.Needs.{needs}
-use mathlib.Core.Path.{_≡_, sym, ap, ap₂, _∙_}
+-- `octets::number_at` meets its contract, by the width of the number.
+use mathlib.Core.Path.{sym, ap, _∙_}
 use native.Mathlib.Omega.{arith}
 use Rattle.octets.specs.Octets.{value}
-use Rattle.octets.proofs.LoopLaws.{value-none, value-more, value-room}
+use borrow.Author.Needs.{needs}
 use Rattle.octets.proofs.number_at.Statement.{statement}
 use Rattle.octets.proofs.number_at.Tie as tie
 
-abbrev Inv-loop : tie.InvT-loop
-Inv-loop s at n most v₀ i₀ v i = (i ≤ most) × (v ≡ value s at i)
-
-abbrev μ-loop : tie.MeasureT-loop
-μ-loop s at n most v₀ i₀ v i = most - i
-
-at-most-requires : tie.Need-at-most-requires Inv-loop μ-loop
+at-most-requires : tie.Need-at-most-requires
 at-most-requires c κs = search needs
 
-loop-holds : tie.Need-loop-holds Inv-loop μ-loop
-loop-holds c = (search needs, sym (value-none (c .before .before .args .s .now) (c .before .before .args .at)))
+run-length-requires : tie.Need-run-length-requires
+run-length-requires c κs = search needs
 
-mul-v : tie.Need-mul-v Inv-loop μ-loop
-mul-v c =
-    let a = c .before .before .before .before .args in
-    let l = c .before .loop in
-    omega (arith, l .inv .1, c .before .before .at-most .ensures, value-room (a .s .now) (a .at) (l .i) 8 (λ i. c .before .before .before .shared-slice-known .given i .fits) (omega (arith, c .before .before .at-most .ensures)) (omega arith))
+number-by-octets-requires : tie.Need-number-by-octets-requires
+number-by-octets-requires c κs = search needs
 
-octet-behind-requires : tie.Need-octet-behind-requires Inv-loop μ-loop
-octet-behind-requires c κs = search needs
+returns : tie.Need-returns
+returns c = c .number-by-octets .ensures ∙ ap (value (c .before .before .before .before .before .args .s .now) (c .before .before .before .before .before .args .at)) (c .before .before .before .at-most .ensures)
 
-add-v : tie.Need-add-v Inv-loop μ-loop
-add-v c =
-    let a = c .before .before .before .before .before .args in
-    let l = c .before .before .loop in
-    let known = c .before .before .before .before .shared-slice-known .given in
-    omega (arith, l .inv .1, c .octet-behind .ensures, known (a .at + l .i), value-room (a .s .now) (a .at) (l .i) 8 (λ i. known i .fits) (omega (arith, c .before .before .before .at-most .ensures)) (omega arith))
+two-at-requires : tie.Need-two-at-requires
+two-at-requires c κs = search needs
 
-add-i : tie.Need-add-i Inv-loop μ-loop
-add-i c = search needs
+from32-requires : tie.Need-from32-requires
+from32-requires c κs = search needs
 
-loop-less : tie.Need-loop-less Inv-loop μ-loop
-loop-less c = search needs
+four-at-requires : tie.Need-four-at-requires
+four-at-requires c κs = search needs
 
-loop-again : tie.Need-loop-again Inv-loop μ-loop
-loop-again c =
-    let a = c .before .before .before .before .before .args in
-    let l = c .before .before .loop in
-    (search needs, ap₂ (λ (x y : ℕ). x * 256 + y) (l .inv .1) (c .octet-behind .ensures) ∙ sym (value-more (a .s .now) (a .at) (l .i)))
+from32-requires-2 : tie.Need-from32-requires-2
+from32-requires-2 c κs = search needs
 
-returns : tie.Need-returns Inv-loop μ-loop
-returns c =
-    let a = c .before .before .before .before .args in
-    c .before .loop .inv .1 ∙ ap (value (a .s .now) (a .at)) (omega (arith, c .before .before .at-most .ensures))
+six-at-requires : tie.Need-six-at-requires
+six-at-requires c κs = search needs
+
+eight-at-requires : tie.Need-eight-at-requires
+eight-at-requires c κs = search needs
+
+number-by-octets-requires-2 : tie.Need-number-by-octets-requires-2
+number-by-octets-requires-2 c κs = omega (arith, c .before .before .before .at-most .ensures)
+
+returns-2 : tie.Need-returns-2
+returns-2 c = c .from32 .ensures .0 ∙ c .before .two-at .ensures .0 ∙ ap (value (c .before .before .before .before .before .before .before .args .s .now) (c .before .before .before .before .before .before .before .args .at)) (sym (c .before .before .match .keys1) ∙ c .before .before .before .before .before .at-most .ensures)
+
+returns-3 : tie.Need-returns-3
+returns-3 c = c .from322 .ensures .0 ∙ c .before .four-at .ensures ∙ ap (value (c .before .before .before .before .before .before .before .args .s .now) (c .before .before .before .before .before .before .before .args .at)) (sym (c .before .before .match .keys2) ∙ c .before .before .before .before .before .at-most .ensures)
+
+returns-4 : tie.Need-returns-4
+returns-4 c = c .six-at .ensures ∙ ap (value (c .before .before .before .before .before .before .args .s .now) (c .before .before .before .before .before .before .args .at)) (sym (c .before .match .keys3) ∙ c .before .before .before .before .at-most .ensures)
+
+returns-5 : tie.Need-returns-5
+returns-5 c = c .eight-at .ensures ∙ ap (value (c .before .before .before .before .before .before .args .s .now) (c .before .before .before .before .before .before .args .at)) (sym (c .before .match .keys4) ∙ c .before .before .before .before .at-most .ensures)
+
+returns-6 : tie.Need-returns-6
+returns-6 c = c .number-by-octets2 .ensures ∙ ap (value (c .before .before .before .before .before .before .args .s .now) (c .before .before .before .before .before .before .args .at)) (c .before .before .before .before .at-most .ensures)
 
 pub number-at-spec : {M : Type 1} → statement M
 number-at-spec =
     tie.close
     (tie.spec
-    Inv-loop
-    μ-loop
     at-most-requires
-    loop-holds
-    mul-v
-    octet-behind-requires
-    add-v
-    add-i
-    loop-less
-    loop-again
-    returns)
+    run-length-requires
+    number-by-octets-requires
+    returns
+    two-at-requires
+    from32-requires
+    four-at-requires
+    from32-requires-2
+    six-at-requires
+    eight-at-requires
+    number-by-octets-requires-2
+    returns-2
+    returns-3
+    returns-4
+    returns-5
+    returns-6)

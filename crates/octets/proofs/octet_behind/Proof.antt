@@ -22,10 +22,10 @@ returns : tie.Need-returns
 returns c = search needs
 
 returns-2 : tie.Need-returns-2
-returns-2 c = sym (List·getD-eq-default (c .before .before .before .args .s .now) 0 (omega arith))
+returns-2 c = (sym (List·getD-eq-default (c .before .before .before .args .s .now) 0 (omega arith)), omega arith)
 
 returns-3 : tie.Need-returns-3
-returns-3 c = sym (List·getD-eq-default (c .before .before .args .s .now) 0 (omega arith))
+returns-3 c = (sym (List·getD-eq-default (c .before .before .args .s .now) 0 (omega arith)), omega arith)
 
 pub octet-behind-spec : {M : Type 1} → statement M
 octet-behind-spec =

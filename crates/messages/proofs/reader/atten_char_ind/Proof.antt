@@ -1,8 +1,9 @@
 -- The two tests and the message are those of the rule.
-use borrow.Author.Needs.{needs}
 use mathlib.Core.Path.{_∙_}
+use Rattle.octets.proofs.LoopLaws.{value-one}
 use Rattle.messages.proofs.ReadLaws.{decided}
 use Rattle.messages.specs.Table.{attenCharInd}
+use borrow.Author.Needs.{needs}
 use Rattle.messages.proofs.reader.atten_char_ind.Statement.{statement}
 use Rattle.messages.proofs.reader.atten_char_ind.Tie as tie
 
@@ -37,7 +38,7 @@ returns : tie.Need-returns
 returns c =
     let a = c .before .before .before .before .before .before .before .before .before .before .args in
     decided attenCharInd (a .dst) (a .src) (a .p .now) (c .decide .result)
-    (λ g. c .decide .ensures g ∙ simp (c .before .before .before .before .before .before .before .before .number-at .ensures, c .before .before .before .before .before .before .before .octet-at .ensures, c .before .before .before .before .before .before .is-unicast .ensures, c .before .before .before .before .before .is-unicast2 .ensures, c .before .before .before .before .is-zero .ensures, c .before .before .before .number-at2 .ensures, c .before .before .is-zero2 .ensures, c .before .number-at3 .ensures))
+    (λ g. c .decide .ensures g ∙ simp (c .before .before .before .before .before .before .before .before .number-at .ensures, c .before .before .before .before .before .before .before .octet-at .ensures ∙ value-one (a .p .now) 50, c .before .before .before .before .before .before .is-unicast .ensures, c .before .before .before .before .before .is-unicast2 .ensures, c .before .before .before .before .is-zero .ensures, c .before .before .before .number-at2 .ensures, c .before .before .is-zero2 .ensures, c .before .number-at3 .ensures))
 
 pub atten-char-ind-spec : {M : Type 1} → statement M
 atten-char-ind-spec =

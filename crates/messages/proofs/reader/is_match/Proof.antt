@@ -1,9 +1,9 @@
 -- The tests one after another.
-use borrow.Author.Needs.{needs}
 use mathlib.Core.Bool.{true}
 use mathlib.Core.List.{[]}
 use Rattle.messages.proofs.ReadLaws.{joined-holds}
 use Rattle.messages.specs.Table.{matchFields}
+use borrow.Author.Needs.{needs}
 use Rattle.messages.proofs.reader.is_match.Statement.{statement}
 use Rattle.messages.proofs.reader.is_match.Tie as tie
 
@@ -25,13 +25,10 @@ is-zero-requires-3 c κs = search needs
 number-at-requires-3 : tie.Need-number-at-requires-3
 number-at-requires-3 c κs = search needs
 
-is-zero-requires-4 : tie.Need-is-zero-requires-4
-is-zero-requires-4 c κs = search needs
-
 returns : tie.Need-returns
 returns c =
-    let a = c .before .before .before .before .before .before .before .before .args in
-    simp (c .before .before .before .before .before .before .is-zero .ensures, c .before .before .before .before .before .number-at .ensures, c .before .before .before .before .is-zero2 .ensures, c .before .before .before .number-at2 .ensures, c .before .before .is-zero3 .ensures, c .before .number-at3 .ensures, c .is-zero4 .ensures) (joined-holds (matchFields (a .mvflength) (a .car) (a .station) []) true 0 (a .p .now))
+    let a = c .before .before .before .before .before .before .before .args in
+    simp (c .before .before .before .before .before .is-zero .ensures, c .before .before .before .before .number-at .ensures, c .before .before .before .is-zero2 .ensures, c .before .before .number-at2 .ensures, c .before .is-zero3 .ensures, c .number-at3 .ensures) (joined-holds (matchFields (a .mvflength) (a .car) (a .station) []) true 0 (a .p .now))
 
 pub is-match-spec : {M : Type 1} → statement M
 is-match-spec =
@@ -43,5 +40,4 @@ is-match-spec =
     number-at-requires-2
     is-zero-requires-3
     number-at-requires-3
-    is-zero-requires-4
     returns)

@@ -1,10 +1,10 @@
 -- The two tests and the message are those of the rule.
-use borrow.Author.Needs.{needs}
 use mathlib.Core.Bool.{true}
 use mathlib.Core.List.{[]}
 use mathlib.Core.Path.{sym, _∙_}
 use Rattle.messages.proofs.ReadLaws.{decided, joined-holds}
-use Rattle.messages.specs.Table.{matchFields, slacMatchReq}
+use Rattle.messages.specs.Table.{slacMatchReq, matchFields}
+use borrow.Author.Needs.{needs}
 use Rattle.messages.proofs.reader.slac_match_req.Statement.{statement}
 use Rattle.messages.proofs.reader.slac_match_req.Tie as tie
 

@@ -1,8 +1,8 @@
 -- The two tests and the message are those of the rule.
-use borrow.Author.Needs.{needs}
 use mathlib.Core.Path.{_∙_}
 use Rattle.messages.proofs.ReadLaws.{decided}
 use Rattle.messages.specs.Table.{slacParmCnf}
+use borrow.Author.Needs.{needs}
 use Rattle.messages.proofs.reader.slac_parm_cnf.Statement.{statement}
 use Rattle.messages.proofs.reader.slac_parm_cnf.Tie as tie
 

@@ -1,8 +1,8 @@
 -- The two tests and the message are those of the rule.
-use borrow.Author.Needs.{needs}
 use mathlib.Core.Path.{_∙_}
 use Rattle.messages.proofs.ReadLaws.{decided}
 use Rattle.messages.specs.Table.{startAttenCharInd}
+use borrow.Author.Needs.{needs}
 use Rattle.messages.proofs.reader.start_atten_char_ind.Statement.{statement}
 use Rattle.messages.proofs.reader.start_atten_char_ind.Tie as tie
 

@@ -1,9 +1,9 @@
 -- The fields one after another.
-use borrow.Author.Needs.{needs}
 use lib.ListN.{length}
 use mathlib.Core.Path.{_≡_}
 use Rattle.messages.proofs.WriteLaws.{store-encode}
 use Rattle.messages.specs.Table.{groupCount, payload, attenCharInd}
+use borrow.Author.Needs.{needs}
 use Rattle.messages.proofs.writer.put_atten_char_ind.Statement.{statement}
 use Rattle.messages.proofs.writer.put_atten_char_ind.Tie as tie
 
@@ -23,9 +23,6 @@ put-number-requires-3 c κs = search needs
 put-number-requires-4 : tie.Need-put-number-requires-4
 put-number-requires-4 c κs = search needs
 
-wide-requires : tie.Need-wide-requires
-wide-requires c κs = search needs
-
 put-number-requires-5 : tie.Need-put-number-requires-5
 put-number-requires-5 c κs = search needs
 
@@ -40,8 +37,8 @@ same-length c = search needs
 
 returns : tie.Need-returns
 returns c =
-    let a = c .before .before .before .before .before .before .before .before .before .before .before .before .before .before .before .before .before .before .before .before .before .before .before .before .before .before .before .before .before .before .args in
-    λ f. rw (c .before .before .put-groups .ensures, c .before .before .before .before .before .before .put-number6 .ensures, c .before .before .before .before .before .before .before .before .before .before .put-number5 .ensures, c .before .before .before .before .before .before .before .before .before .before .before .wide .ensures, c .before .before .before .before .before .before .before .before .before .before .before .before .before .before .before .put-number4 .ensures, c .before .before .before .before .before .before .before .before .before .before .before .before .before .before .before .before .before .before .before .put-number3 .ensures, c .before .before .before .before .before .before .before .before .before .before .before .before .before .before .before .before .before .before .before .before .before .before .before .put-number2 .ensures, c .before .before .before .before .before .before .before .before .before .before .before .before .before .before .before .before .before .before .before .before .before .before .before .before .before .before .before .put-number .ensures) (store-encode (payload attenCharInd (a .car) f) (a .run, (a .sounds, (a .groups, tt))) 0 (a .out .now) (whole (c .before .before .before .before .before .before .before .before .before .before .before .before .before .before .before .before .before .before .before .before .before .before .before .before .before .before .before .before .before .before), tt))
+    let a = c .before .before .before .before .before .before .before .before .before .before .before .before .before .before .before .before .before .before .before .before .before .before .before .before .before .before .before .before .before .args in
+    λ f. rw (c .before .before .put-groups .ensures, c .before .before .before .before .before .before .put-number6 .ensures, c .before .before .before .before .before .before .before .before .before .before .put-number5 .ensures, c .before .before .before .before .before .before .before .before .before .before .before .before .before .before .put-number4 .ensures, c .before .before .before .before .before .before .before .before .before .before .before .before .before .before .before .before .before .before .put-number3 .ensures, c .before .before .before .before .before .before .before .before .before .before .before .before .before .before .before .before .before .before .before .before .before .before .put-number2 .ensures, c .before .before .before .before .before .before .before .before .before .before .before .before .before .before .before .before .before .before .before .before .before .before .before .before .before .before .put-number .ensures) (store-encode (payload attenCharInd (a .car) f) (a .run, (a .sounds, (a .groups, tt))) 0 (a .out .now) (whole (c .before .before .before .before .before .before .before .before .before .before .before .before .before .before .before .before .before .before .before .before .before .before .before .before .before .before .before .before .before), tt))
 
 pub put-atten-char-ind-spec : {M : Type 1} → statement M
 put-atten-char-ind-spec =
@@ -51,7 +48,6 @@ put-atten-char-ind-spec =
     put-number-requires-2
     put-number-requires-3
     put-number-requires-4
-    wide-requires
     put-number-requires-5
     put-number-requires-6
     put-groups-requires

@@ -1,7 +1,7 @@
 -- The fields one after another.
-use borrow.Author.Needs.{needs}
 use Rattle.messages.proofs.WriteLaws.{store-encode}
 use Rattle.messages.specs.Table.{payload, mnbcSoundInd}
+use borrow.Author.Needs.{needs}
 use Rattle.messages.proofs.writer.put_mnbc_sound_ind.Statement.{statement}
 use Rattle.messages.proofs.writer.put_mnbc_sound_ind.Tie as tie
 
@@ -10,9 +10,6 @@ put-number-requires c κs = search needs
 
 put-number-requires-2 : tie.Need-put-number-requires-2
 put-number-requires-2 c κs = search needs
-
-wide-requires : tie.Need-wide-requires
-wide-requires c κs = search needs
 
 put-number-requires-3 : tie.Need-put-number-requires-3
 put-number-requires-3 c κs = search needs
@@ -34,8 +31,8 @@ same-length c = search needs
 
 returns : tie.Need-returns
 returns c =
-    let a = c .before .before .before .before .before .before .before .before .before .before .before .before .before .before .before .before .before .before .before .before .before .before .before .before .before .before .before .before .before .before .args in
-    λ d f. rw (c .before .before .put-number7 .ensures, c .before .before .before .before .before .before .put-number6 .ensures, c .before .before .before .before .before .before .before .before .before .before .put-number5 .ensures, c .before .before .before .before .before .before .before .before .before .before .before .before .before .before .put-number4 .ensures, c .before .before .before .before .before .before .before .before .before .before .before .before .before .before .before .before .before .before .put-number3 .ensures, c .before .before .before .before .before .before .before .before .before .before .before .before .before .before .before .before .before .before .before .wide .ensures, c .before .before .before .before .before .before .before .before .before .before .before .before .before .before .before .before .before .before .before .before .before .before .before .put-number2 .ensures, c .before .before .before .before .before .before .before .before .before .before .before .before .before .before .before .before .before .before .before .before .before .before .before .before .before .before .before .put-number .ensures) (store-encode (payload mnbcSoundInd d f) (a .count, (a .run, (a .random .0, (a .random .1, tt)))) 0 (a .out .now) tt)
+    let a = c .before .before .before .before .before .before .before .before .before .before .before .before .before .before .before .before .before .before .before .before .before .before .before .before .before .before .before .before .before .args in
+    λ d f. rw (c .before .before .put-number7 .ensures, c .before .before .before .before .before .before .put-number6 .ensures, c .before .before .before .before .before .before .before .before .before .before .put-number5 .ensures, c .before .before .before .before .before .before .before .before .before .before .before .before .before .before .put-number4 .ensures, c .before .before .before .before .before .before .before .before .before .before .before .before .before .before .before .before .before .before .put-number3 .ensures, c .before .before .before .before .before .before .before .before .before .before .before .before .before .before .before .before .before .before .before .before .before .before .put-number2 .ensures, c .before .before .before .before .before .before .before .before .before .before .before .before .before .before .before .before .before .before .before .before .before .before .before .before .before .before .put-number .ensures) (store-encode (payload mnbcSoundInd d f) (a .count, (a .run, (a .random .0, (a .random .1, tt)))) 0 (a .out .now) tt)
 
 pub put-mnbc-sound-ind-spec : {M : Type 1} → statement M
 put-mnbc-sound-ind-spec =
@@ -43,7 +40,6 @@ put-mnbc-sound-ind-spec =
     (tie.spec
     put-number-requires
     put-number-requires-2
-    wide-requires
     put-number-requires-3
     put-number-requires-4
     put-number-requires-5

@@ -8,8 +8,8 @@ use borrow.Author.Needs.{needs}
 use Rattle.script.proofs.doing.pilot.Statement.{statement}
 use Rattle.script.proofs.doing.pilot.Tie as tie
 
-octet-at-requires : tie.Need-octet-at-requires
-octet-at-requires c κs = search needs
+number-at-requires : tie.Need-number-at-requires
+number-at-requires c κs = search needs
 
 nothing-requires : tie.Need-nothing-requires
 nothing-requires c κs = search needs
@@ -17,7 +17,7 @@ nothing-requires c κs = search needs
 returns : tie.Need-returns
 returns c =
     let s = c .before .before .before .before .before in
-    rw (← c .before .before .octet-at .ensures, not-true (eqb (length (s .args .octets .now)) 1 && ltb (c .before .before .octet-at .result) 6) (c .before .if1 .taken))
+    rw (← c .before .before .number-at .ensures, not-true (eqb (length (s .args .octets .now)) 1 && ltb (c .before .before .number-at .result) 6) (c .before .if1 .taken))
     (nothing-done (s .pre .kept) (c .nothing .ensures))
 
 pilot-of-requires : tie.Need-pilot-of-requires
@@ -35,14 +35,14 @@ same-length c = search needs
 returns-2 : tie.Need-returns-2
 returns-2 c =
     let s = c .before .before .before .before .before .before .before .before .before .before in
-    rw (← c .before .before .before .before .before .before .before .octet-at .ensures, not-false (eqb (length (s .args .octets .now)) 1 && ltb (c .before .before .before .before .before .before .before .octet-at .result) 6) (c .before .before .before .before .before .before .if1 .left), ← c .before .before .before .before .before .pilot-of .ensures)
+    rw (← c .before .before .before .before .before .before .before .number-at .ensures, not-false (eqb (length (s .args .octets .now)) 1 && ltb (c .before .before .before .before .before .before .before .number-at .result) 6) (c .before .before .before .before .before .before .if1 .left), ← c .before .before .before .before .before .pilot-of .ensures)
     (alone (s .pre) (of-station (c .before .before .before .before .pilot .ensures)) (c .before .before .reply .ensures))
 
 pub pilot-spec : {M : Type 1} → statement M
 pilot-spec =
     tie.close
     (tie.spec
-    octet-at-requires
+    number-at-requires
     nothing-requires
     returns
     pilot-of-requires

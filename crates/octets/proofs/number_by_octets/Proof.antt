@@ -1,12 +1,12 @@
--- The number of the octets passed so far.
+-- `octets::number_by_octets` meets its contract: the number of the octets passed so far.
 use Prim.Native.Nat.{ℕ, _+_, _*_, _-_, _≤_}
 use borrow.Author.Needs.{needs}
 use mathlib.Core.Path.{_≡_, sym, ap, ap₂, _∙_}
 use native.Mathlib.Omega.{arith}
-use Rattle.octets.proofs.LoopLaws.{value-none, value-more, value-room}
 use Rattle.octets.specs.Octets.{value}
-use Rattle.messages.proofs.runs.number_at.Statement.{statement}
-use Rattle.messages.proofs.runs.number_at.Tie as tie
+use Rattle.octets.proofs.LoopLaws.{value-none, value-more, value-room}
+use Rattle.octets.proofs.number_by_octets.Statement.{statement}
+use Rattle.octets.proofs.number_by_octets.Tie as tie
 
 abbrev Inv-loop : tie.InvT-loop
 Inv-loop s at n v₀ i₀ v i = (i ≤ n) × (v ≡ value s at i)
@@ -23,21 +23,14 @@ mul-v c =
     let l = c .before .loop in
     omega (arith, l .inv .1, value-room (a .s .now) (a .at) (l .i) (a .n) (λ i. c .before .before .shared-slice-known .given i .fits) (omega arith) (omega arith))
 
-add-wide : tie.Need-add-wide Inv-loop μ-loop
-add-wide c = search needs
-
-shared-slice-read-wide : tie.Need-shared-slice-read-wide Inv-loop μ-loop
-shared-slice-read-wide c = search needs
-
-wide-requires : tie.Need-wide-requires Inv-loop μ-loop
-wide-requires c κs = search needs
+octet-behind-requires : tie.Need-octet-behind-requires Inv-loop μ-loop
+octet-behind-requires c κs = search needs
 
 add-v : tie.Need-add-v Inv-loop μ-loop
 add-v c =
-    let a = c .before .before .before .before .before .args in
-    let l = c .before .before .before .loop in
-    let known = c .before .before .before .before .shared-slice-known .given in
-    omega (arith, l .inv .1, c .wide .ensures, known (a .at + l .i), value-room (a .s .now) (a .at) (l .i) (a .n) (λ i. known i .fits) (omega arith) (omega arith))
+    let a = c .before .before .before .before .args in
+    let l = c .before .before .loop in
+    omega (arith, l .inv .1, c .octet-behind .ensures .1, value-room (a .s .now) (a .at) (l .i) (a .n) (λ i. c .before .before .before .shared-slice-known .given i .fits) (omega arith) (omega arith))
 
 add-i : tie.Need-add-i Inv-loop μ-loop
 add-i c = search needs
@@ -47,26 +40,24 @@ loop-less c = search needs
 
 loop-again : tie.Need-loop-again Inv-loop μ-loop
 loop-again c =
-    let a = c .before .before .before .before .before .args in
-    let l = c .before .before .before .loop in
-    (search needs, ap₂ (λ (x y : ℕ). x * 256 + y) (l .inv .1) (c .wide .ensures) ∙ sym (value-more (a .s .now) (a .at) (l .i)))
+    let a = c .before .before .before .before .args in
+    let l = c .before .before .loop in
+    (search needs, ap₂ (λ (x y : ℕ). x * 256 + y) (l .inv .1) (c .octet-behind .ensures .0) ∙ sym (value-more (a .s .now) (a .at) (l .i)))
 
 returns : tie.Need-returns Inv-loop μ-loop
 returns c =
     let a = c .before .before .before .args in
     c .before .loop .inv .1 ∙ ap (value (a .s .now) (a .at)) (omega arith)
 
-pub number-at-spec : {M : Type 1} → statement M
-number-at-spec =
+pub number-by-octets-spec : {M : Type 1} → statement M
+number-by-octets-spec =
     tie.close
     (tie.spec
     Inv-loop
     μ-loop
     loop-holds
     mul-v
-    add-wide
-    shared-slice-read-wide
-    wide-requires
+    octet-behind-requires
     add-v
     add-i
     loop-less
