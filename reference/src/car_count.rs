@@ -111,6 +111,7 @@ impl Counts {
     pub fn new(config: Config) -> Counts {
         let mut table = Table::default();
         table.refusals(&refusal::OF_CARS);
+        TAKEN.iter().for_each(|(kind, _)| table.reserved_rows(*kind));
         let mut row = |group, name: &str| table.row(group, name);
         for indication in 0..=6 {
             row("2 indication", &crate::compare::indicated(indication));
@@ -227,6 +228,7 @@ impl Counts {
             Event::Query => format!("key query in {state}"),
             Event::Frame { octets, .. } => {
                 let Ok(message) = Message::read(octets) else { return };
+                self.table.reserved(octets);
                 format!("{} in {state}{}", short(message.body.kind()), repeated(&message, before))
             }
         };

@@ -30,6 +30,29 @@ impl Table {
     pub fn refused(&mut self, refusal: Refusal) {
         self.add("1 refusal", &refused(refusal.number()));
     }
+
+    /// A row of zero for each run of reserved octets of an accepted message.
+    pub fn reserved_rows(&mut self, kind: Kind) {
+        kind.reserved().iter().for_each(|place| self.row("4 accepted", &set(kind, *place)));
+    }
+
+    /// Counts the runs of reserved octets that an accepted frame has set.
+    pub fn reserved(&mut self, frame: &[u8]) {
+        let Some(kind) = Kind::of(frame) else { return };
+        for (from, to) in kind.reserved() {
+            if frame.iter().take(19 + to).skip(19 + from).any(|octet| *octet != 0) {
+                self.add("4 accepted", &set(kind, (*from, *to)));
+            }
+        }
+    }
+}
+
+/// The row of reserved octets that are set.
+fn set(kind: Kind, (from, to): (usize, usize)) -> String {
+    match to - from {
+        1 => format!("{}, octet {from} set", kind.name()),
+        _ => format!("{}, octets {from}-{} set", kind.name(), to - 1),
+    }
 }
 
 /// The station's table.
@@ -41,13 +64,21 @@ impl Counts {
     pub fn new() -> Counts {
         let mut counts = Counts::default();
         counts.0.refusals(&refusal::OF_STATIONS);
-        let mut row = |group, name: &str| counts.0.row(group, name);
         for kind in Kind::ALL {
-            row("5 damaged", kind.name());
-            row("6 short output", kind.name());
+            counts.0.row("5 damaged", kind.name());
+            counts.0.row("6 short output", kind.name());
             if !matches!(kind, Kind::ParmCnf | Kind::AttenChar | Kind::MatchCnf) {
-                row("4 accepted", kind.name());
+                counts.0.row("4 accepted", kind.name());
+                counts.0.reserved_rows(kind);
             }
+        }
+        let mut row = |group, name: &str| counts.0.row(group, name);
+        for name in ["tick", "pilot", "terminate", "link up", "query"] {
+            row("4 accepted", name);
+        }
+        row("5 damaged", "unknown type");
+        for name in ["tick", "unknown type"] {
+            row("6 short output", name);
         }
         for name in ["none", "no link", "link established"] {
             row("2 indication", name);
@@ -84,6 +115,9 @@ impl Counts {
         match outcome {
             Ok((indication, _)) => {
                 self.add("4 accepted", kind);
+                if let Event::Frame { octets, .. } = event {
+                    self.0.reserved(octets);
+                }
                 let indication = match indication {
                     None => "none",
                     Some(Indication::NoLink) => "no link",

@@ -109,6 +109,18 @@ impl Kind {
         self.row().3
     }
 
+    /// The payload's octets that the ISO tables call RSVD, from a place up to another: "not looked
+    /// at when read", and "zero when written".
+    pub fn reserved(self) -> &'static [(usize, usize)] {
+        match self {
+            Kind::MnbcSound => &[(28, 36)],
+            Kind::MatchReq => &[(58, 66)],
+            Kind::MatchCnf => &[(58, 66), (73, 74)],
+            Kind::AttenProfile => &[(7, 8)],
+            _ => &[],
+        }
+    }
+
     /// The message that the octets' type names, whatever else they hold.
     pub fn of(frame: &[u8]) -> Option<Kind> {
         let number = u16::from_le_bytes([*frame.get(15)?, *frame.get(16)?]);
@@ -260,7 +272,8 @@ fn check_addresses(kind: Kind, to: Address, from: Address, car: Address) -> Resu
     good.then_some(()).ok_or(Refusal::AddressKind)
 }
 
-/// Whether every fixed, equal-to and limited octet of the payload is right.
+/// Whether every fixed, equal-to and limited octet of the payload is right; reserved ones are not
+/// looked at.
 fn is_fixed(kind: Kind, p: &[u8], to: &[u8], from: &[u8]) -> bool {
     let zero = |from: usize, to: usize| p[from..to].iter().all(|octet| *octet == 0);
     let matching = |length: u8, car: &[u8], station: &[u8]| {
@@ -270,7 +283,6 @@ fn is_fixed(kind: Kind, p: &[u8], to: &[u8], from: &[u8]) -> bool {
             && p[21..27] == *car
             && zero(27, 44)
             && p[44..50] == *station
-            && zero(58, 66)
     };
     match kind {
         Kind::ParmReq => zero(0, 2),
@@ -280,10 +292,10 @@ fn is_fixed(kind: Kind, p: &[u8], to: &[u8], from: &[u8]) -> bool {
         Kind::StartAttenChar => zero(0, 2) && p[2..5] == SOUNDING && p[5..11] == *from,
         Kind::AttenChar => zero(0, 2) && p[2..8] == *to && zero(16, 50) && p[51] == GROUPS,
         Kind::AttenCharRsp => zero(0, 2) && p[2..8] == *from && zero(16, 51),
-        Kind::MnbcSound => zero(0, 19) && zero(28, 36),
+        Kind::MnbcSound => zero(0, 19),
         Kind::MatchReq => matching(0x3E, from, to),
-        Kind::MatchCnf => matching(0x56, to, from) && p[72] <= 0x3F && p[73] == 0,
-        Kind::AttenProfile => p[6..8] == [GROUPS, 0],
+        Kind::MatchCnf => matching(0x56, to, from) && p[72] <= 0x3F,
+        Kind::AttenProfile => p[6] == GROUPS,
     }
 }
 

@@ -41,10 +41,14 @@ impl Random {
         Address([a & 0xFE, b, c, d, e, last])
     }
 
-    /// The message's frame: so often in a hundred damaged, else now and then with its padding cut
-    /// or filled. Damage may put one of our addresses in the wrong place.
+    /// The message's frame, now and then with reserved octets set: so often in a hundred damaged,
+    /// else now and then with its padding cut or filled. Damage may put one of our addresses in
+    /// the wrong place.
     pub fn frame(&mut self, message: &Message, damage: usize, ours: [Address; 2]) -> Vec<u8> {
         let mut octets = message.to_frame().unwrap_or_default();
+        if self.chance(20) {
+            self.set_reserved(message.body.kind(), &mut octets);
+        }
         if self.chance(damage) {
             self.damage(&mut octets, ours);
             if self.chance(30) {
@@ -58,6 +62,19 @@ impl Random {
             octets.iter_mut().skip(shortest).for_each(|octet| *octet = padding);
         }
         octets
+    }
+
+    /// Sets the reserved octets to any values, or one bit of them.
+    fn set_reserved(&mut self, kind: Kind, octets: &mut [u8]) {
+        let places = || kind.reserved().iter().flat_map(|(from, to)| 19 + from..19 + to);
+        let one = self.below(places().count());
+        let all = self.chance(50);
+        for (index, at) in places().enumerate() {
+            let value = if all { self.next() as u8 } else { 1 << self.below(8) };
+            if all || index == one {
+                replace(octets, at, &[value]);
+            }
+        }
     }
 
     fn damage(&mut self, octets: &mut Vec<u8>, ours: [Address; 2]) {

@@ -4,7 +4,7 @@ use crate::messages::{Address, Body, Kind, Message, Nid, Nmk, RunId};
 use crate::refusal::Refusal;
 use crate::script::{write_head, Event};
 use crate::station::{Answer, Config, Indication, Phase, Pilot, State, Station};
-use crate::{compare, generate};
+use crate::{compare, count, generate};
 
 const fn address(last: u8) -> Address {
     Address([2, 0, 0, 0, 0, last])
@@ -243,8 +243,13 @@ fn p11_p12_times_that_free_a_record() {
     assert_eq!((bench.tick(1), bench.phase(CAR)), (NOTHING, None));
 }
 
+/// Whether the octet of a frame is one of the reserved ones.
+fn is_reserved(kind: Kind, at: usize) -> bool {
+    kind.reserved().iter().any(|(from, to)| (19 + from..19 + to).contains(&at))
+}
+
 #[test]
-fn every_octet_of_every_message_is_looked_at() {
+fn every_octet_but_the_reserved_ones_is_looked_at() {
     for (message, kind) in nine().into_iter().zip(Kind::ALL) {
         let frame = message.to_frame().unwrap();
         assert_eq!((message.body.kind(), frame.len()), (kind, kind.written()));
@@ -261,13 +266,67 @@ fn every_octet_of_every_message_is_looked_at() {
             let mut changed = frame.clone();
             changed[at] ^= 1 << bit;
             let read = Message::read(&changed);
-            assert_eq!(read == Ok(message), at >= kind.shortest());
+            assert_eq!(read == Ok(message), at >= kind.shortest() || is_reserved(kind, at));
             if let Ok(other) = read {
-                let again = other.to_frame().unwrap();
-                assert_eq!(again[..kind.shortest()], changed[..kind.shortest()]);
+                // What is written again has zeros in reserved octets and padding.
+                changed[kind.shortest()..].fill(0);
+                (0..changed.len())
+                    .filter(|at| is_reserved(kind, *at))
+                    .for_each(|at| changed[at] = 0);
+                assert_eq!(other.to_frame().unwrap(), changed);
             }
         }
     }
+}
+
+#[test]
+fn reserved_octets_are_skipped_and_the_identifiers_are_not() {
+    // SOUND 28-35, MATCH.REQ 58-65, MATCH.CNF 58-65 and 73, PROFILE 7.
+    for (message, places) in nine().into_iter().zip([
+        vec![],
+        vec![],
+        vec![],
+        vec![],
+        vec![],
+        (28..=35).collect(),
+        (58..=65).collect(),
+        (58..=65).chain([73]).collect(),
+        vec![7],
+    ]) {
+        let (frame, kind) = (message.to_frame().unwrap(), message.body.kind());
+        let found: Vec<usize> = (0..90).filter(|at| is_reserved(kind, 19 + at)).collect();
+        assert_eq!(found, places);
+        let mut filled = frame.clone();
+        places.iter().for_each(|at| filled[19 + at] = 0xFF);
+        assert_eq!(Message::read(&filled), Ok(message));
+        assert_eq!(Message::read(&filled[..kind.shortest()]), Ok(message));
+    }
+    let matching = [(6, 4..=20), (6, 27..=43), (7, 4..=20), (7, 27..=43)];
+    let zeros = [(5, 2..=18), (3, 16..=49), (4, 16..=50)].into_iter().chain(matching);
+    for (message, at) in zeros.flat_map(|(message, run)| run.map(move |at| (message, at))) {
+        let mut frame = nine()[message].to_frame().unwrap();
+        frame[19 + at] = 1;
+        assert_eq!(Message::read(&frame), Err(Refusal::Octet));
+    }
+}
+
+#[test]
+fn a_newer_car_is_taken() {
+    let mut bench = Bench::sounding();
+    let set = |message: Message, from: usize, to: usize| {
+        let mut frame = message.to_frame().unwrap();
+        frame[19 + from..19 + to].fill(0xA5);
+        frame
+    };
+    assert_eq!(bench.octets(&set(sound(4).broadcast(CAR), 28, 36)), NOTHING);
+    let profile = Body::AttenProfile { car: CAR, groups: [40; 58] }.send(MODEM, US);
+    assert_eq!(bench.octets(&set(profile, 7, 8)), NOTHING);
+    assert_eq!(bench.tick(600), replies(&[report(CAR, 1, 40)]));
+    assert_eq!(bench.car(RESPONSE), NOTHING);
+    // The reply has zeros there.
+    assert_eq!(bench.octets(&set(MATCH.send(CAR, US), 58, 66)), replies(&[nine()[7]]));
+    assert_eq!(bench.octets(&set(MATCH.send(CAR, US), 58, 66)), replies(&[nine()[7]]));
+    assert_eq!(nine()[7].to_frame().unwrap()[19 + 58..19 + 66], [0; 8]);
 }
 
 #[test]
@@ -545,14 +604,43 @@ fn a_script_is_answered_event_by_event() {
 #[test]
 fn random_scripts_come_from_their_seed_and_compare_equal() {
     let outputs = [1, 1, 2].map(|seed| {
-        let (mut script, mut output) = (Vec::new(), Vec::new());
-        generate::generate(seed, 5000, &mut script).unwrap();
-        assert!(crate::run(&script[..], &mut output).unwrap());
+        let mut output = Vec::new();
+        assert!(crate::run(&random_script(seed, 5000)[..], &mut output).unwrap());
         output
     });
     let compare = |a: usize, b: usize| compare::compare(&outputs[a][..], &outputs[b][..]).unwrap();
     assert_eq!(compare(0, 1), Ok("5000 events, no difference".into()));
     assert!(compare(0, 2).is_err_and(|words| words.starts_with("event ")));
+}
+
+/// A seed and how many events of it reach every row but 16, and a seed of a bad configuration.
+const FULL: (u64, u32) = (110, 2_500);
+const BAD: (u64, u32) = (5, 250);
+
+fn random_script(seed: u64, events: u32) -> Vec<u8> {
+    let mut script = Vec::new();
+    generate::generate(seed, events, &mut script).unwrap();
+    script
+}
+
+/// The rows of the table of a random script.
+fn counted(seed: u64, events: u32) -> Vec<String> {
+    let mut counted = Vec::new();
+    assert!(crate::count(&random_script(seed, events)[..], &mut counted).unwrap());
+    String::from_utf8(counted).unwrap().lines().map(String::from).collect()
+}
+
+#[test]
+fn a_random_script_reaches_every_row() {
+    let full = counted(FULL.0, FULL.1);
+    let zeros: Vec<&String> = full.iter().filter(|row| row.ends_with(" 0")).collect();
+    assert!(matches!(zeros[..], [row] if row.contains("16 bad configuration")), "{zeros:?}");
+    // A row that the table did not foresee would be one more.
+    let rows = count::Counts::new().to_string().lines().count();
+    assert_eq!(full.len(), rows);
+    let bad = counted(BAD.0, BAD.1);
+    let row = bad.iter().find(|row| row.contains("16 bad configuration")).unwrap();
+    assert!(row.ends_with(" 251") && bad.len() == rows);
 }
 
 #[test]
