@@ -4,5 +4,5 @@ pub mod FillLaws
 pub mod ProfileLaws
 pub mod RequestLaws
 pub mod PlaceLaws
-pub mod ReportLaws
+pub mod MeanLaws
 pub mod TimerLaws

@@ -1,4 +1,5 @@
 pub mod Heard
+pub mod Means
 pub mod Requests
 pub mod Places
 pub mod Timers

@@ -1,37 +1,73 @@
-// A report's group values.
+// A report's group values: each sum divided by the profiles counted, without a division.
 use messages::GROUPS;
 use messages::GroupValues;
 use rules::GroupSums;
 use rules::Record;
 ghost use mathlib.Core.Path.{_≡_};
 ghost use mathlib.Core.List.{map};
-ghost use Prim.Native.Nat.{ℕ, _*_, _≤_};
+ghost use Prim.Native.Nat.{ℕ, _*_, _^_, _/_, _<_, _≤_};
 ghost use lib.ListN.{getD};
 ghost use Rattle.rules.specs.Replies.{mean};
 ghost use Rattle.rules.specs.Invariant.{GoodRecord};
+ghost use Rattle.records.specs.Means.{mostProfiles, reciprocal};
 
-// Each sum divided by the profiles counted, rounded down; zeros where no profile is counted.
+// 65,536 divided by each number of profiles from 0 to 16, rounded up; 0 for 0.
+const RECIPROCALS: [u32; 17] = [
+    0,
+    65536,
+    32768,
+    21846,
+    16384,
+    13108,
+    10923,
+    9363,
+    8192,
+    7282,
+    6554,
+    5958,
+    5462,
+    5042,
+    4682,
+    4370,
+    4096,
+];
+
+// 65,536 divided by a number of profiles, rounded up.
+fn reciprocal_of(profiles: u8) -> u32
+    requires { ⌜ profiles ≤ mostProfiles ⌝ }
+    ensures { λ r. ⌜ r ≡ reciprocal profiles ⌝ }
+{
+    let at = profiles as usize;
+    RECIPROCALS[at]
+}
+
+// A sum times a factor, divided by 65,536.
+fn scaled(sum: u16, factor: u32) -> u8
+    requires { ⌜ sum * factor < 2 ^ 24 ⌝ }
+    ensures { λ r. ⌜ r ≡ sum * factor / 2 ^ 16 ⌝ }
+{
+    ((sum as u32 * factor) >> 16) as u8
+}
+
+// Each sum scaled by the reciprocal of the profiles counted: its mean, rounded down; zeros where no profile is counted.
 pub fn values(r: Record) -> GroupValues
     requires { ⌜ GoodRecord r ⌝ }
     ensures { λ v. ⌜ v ≡ map (mean (r .profiles)) (r .sums) ⌝ }
 {
     let sums = r.sums;
-    let count = r.profiles;
-    if count == 0 {
-        return messages::no_groups();
-    }
-    means(sums, count as u16)
+    means(sums, r.profiles)
 }
 
-// Each sum divided by a count.
-fn means(sums: GroupSums, count: u16) -> GroupValues
-    requires { ⌜ (1 ≤ count) × ((i : ℕ) → getD sums i 0 ≤ 255 * count) ⌝ }
-    ensures { λ v. ⌜ v ≡ map (mean count) sums ⌝ }
+// Each sum's mean over so many profiles.
+fn means(sums: GroupSums, profiles: u8) -> GroupValues
+    requires { ⌜ (profiles ≤ mostProfiles) × ((i : ℕ) → getD sums i 0 ≤ 255 * profiles) ⌝ }
+    ensures { λ v. ⌜ v ≡ map (mean profiles) sums ⌝ }
 {
+    let factor = reciprocal_of(profiles);
     let mut values = messages::no_groups();
     let mut i: usize = 0;
     while i < GROUPS {
-        values[i] = (sums[i] / count) as u8;
+        values[i] = scaled(sums[i], factor);
         i = i + 1;
     }
     values
