@@ -10,7 +10,7 @@ use lib.ListN.{length}
 use types.Run.{OneOf, miss}
 use Rattle.messages.specs.declared.CarAddress.{CarAddress}
 use Rattle.messages.specs.declared.Message.{Message}
-use Rattle.messages.specs.declared.Message.the-variants.{SlacParmReq, SlacParmCnf, StartAttenCharInd, AttenCharInd, AttenCharRsp, MnbcSoundInd, SlacMatchReq, SlacMatchCnf, AttenProfileInd}
+use Rattle.messages.specs.declared.Message.the-variants.{SlacParmReq, SlacParmCnf, StartAttenCharInd, AttenCharInd, AttenCharRsp, MnbcSoundInd, ValidateReq, ValidateCnf, SlacMatchReq, SlacMatchCnf, AttenProfileInd}
 use Rattle.messages.specs.declared.ReadAnswer.{ReadAnswer}
 use Rattle.messages.specs.declared.ReadAnswer.the-variants as readAnswer
 use Rattle.messages.specs.declared.Refusal.{Refusal}
@@ -99,15 +99,17 @@ pub addressed-as : (o : Configuration) (c : CarAddress) (x : code.Received) (m m
 addressed-as o c x m m′ j e t h g = ap (λ (y : Judged). judgedOf y g) e ∙ for-us-rule (ours o c x) x g ∙ h g ∙ sym (ap (λ (y : Message). addressedRule o (messageOf y g)) t)
 
 -- 19
-pub only-stations : (o : Configuration) (m : Message) (g : List ℕ) → OneOf (0 ∷ 2 ∷ 4 ∷ 5 ∷ 6 ∷ 8 ∷ []) (tagOf the-type m) → no 19 ≡ addressedRule o (messageOf m g)
+pub only-stations : (o : Configuration) (m : Message) (g : List ℕ) → OneOf (0 ∷ 2 ∷ 4 ∷ 5 ∷ 6 ∷ 8 ∷ 10 ∷ []) (tagOf the-type m) → no 19 ≡ addressedRule o (messageOf m g)
 only-stations o (SlacParmReq c r) g t = refl
-only-stations o (SlacParmCnf s c r) g t = absurd (miss (0 ∷ 2 ∷ 4 ∷ 5 ∷ 6 ∷ 8 ∷ []) 1 tt t)
+only-stations o (SlacParmCnf s c r) g t = absurd (miss (0 ∷ 2 ∷ 4 ∷ 5 ∷ 6 ∷ 8 ∷ 10 ∷ []) 1 tt t)
 only-stations o (StartAttenCharInd c r) g t = refl
-only-stations o (AttenCharInd s c r n) g t = absurd (miss (0 ∷ 2 ∷ 4 ∷ 5 ∷ 6 ∷ 8 ∷ []) 3 tt t)
+only-stations o (AttenCharInd s c r n) g t = absurd (miss (0 ∷ 2 ∷ 4 ∷ 5 ∷ 6 ∷ 8 ∷ 10 ∷ []) 3 tt t)
 only-stations o (AttenCharRsp c s r) g t = refl
 only-stations o (MnbcSoundInd c n r x) g t = refl
+only-stations o (ValidateReq c x d) g t = refl
+only-stations o (ValidateCnf s n c x) g t = absurd (miss (0 ∷ 2 ∷ 4 ∷ 5 ∷ 6 ∷ 8 ∷ 10 ∷ []) 7 tt t)
 only-stations o (SlacMatchReq c s r) g t = refl
-only-stations o (SlacMatchCnf s c r n k) g t = absurd (miss (0 ∷ 2 ∷ 4 ∷ 5 ∷ 6 ∷ 8 ∷ []) 7 tt t)
+only-stations o (SlacMatchCnf s c r n k) g t = absurd (miss (0 ∷ 2 ∷ 4 ∷ 5 ∷ 6 ∷ 8 ∷ 10 ∷ []) 9 tt t)
 only-stations o (AttenProfileInd m s c) g t = refl
 
 -- ---- the frame's rule by what judging gives

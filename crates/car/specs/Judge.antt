@@ -14,18 +14,19 @@ use Rattle.ends.specs.Outcomes.{andThen}
 use Rattle.car_rules.specs.declared.Configuration.{Configuration}
 use Rattle.car_rules.specs.Constants.{leastOutput}
 use Rattle.car_rules.specs.Received as rule
-use Rattle.car_rules.specs.Received.{parmCnf, report, matchCnf, receivedIn, received, isForUs}
+use Rattle.car_rules.specs.Received.{parmCnf, report, matchCnf, validation, receivedIn, received, isForUs}
 use Rattle.car.specs.declared.judge.Judged.{Judged}
 use Rattle.car.specs.declared.judge.Judged.the-variants as judged
 use Rattle.car.specs.declared.judge.Received.{Received}
 use Rattle.car.specs.declared.judge.StationMessage.{StationMessage}
-use Rattle.car.specs.declared.judge.StationMessage.the-variants.{ParmCnf, Report, MatchCnf}
+use Rattle.car.specs.declared.judge.StationMessage.the-variants.{ParmCnf, Report, MatchCnf, Validation}
 
 -- a message, with the group values g beside it
 abbrev pub messageOf : StationMessage → List ℕ → rule.StationMessage
 messageOf ParmCnf g = parmCnf
 messageOf (Report k) g = report k g
 messageOf (MatchCnf nid nmk) g = matchCnf nid nmk
+messageOf Validation g = validation
 
 -- a station's message in a frame to d
 abbrev pub receivedOf : ℕ → Received → List ℕ → rule.Received

@@ -53,6 +53,7 @@ fn in_sounding(message: StationMessage) -> EffectAnswer
         StationMessage::ParmCnf => EffectAnswer::Taken(Effect::Stays),
         StationMessage::Report(sounds) => EffectAnswer::Taken(Effect::Gathers(sounds)),
         StationMessage::MatchCnf { nid: _, nmk: _ } => EffectAnswer::Refused(Refusal::WrongState),
+        StationMessage::Validation => EffectAnswer::Refused(Refusal::WrongState),
     }
 }
 
@@ -67,6 +68,7 @@ fn in_requesting(message: StationMessage) -> EffectAnswer
             nid: nid,
             nmk: nmk,
         }),
+        StationMessage::Validation => EffectAnswer::Refused(Refusal::WrongState),
     }
 }
 

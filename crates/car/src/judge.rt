@@ -16,14 +16,15 @@ ghost use Rattle.messages.specs.Answers.{messageOf};
 ghost use Rattle.messages.specs.Reading.{groupsOf, readRules};
 ghost use Rattle.car.specs.Judge.{judgedOf, addressedRule, judgeRule, forUs};
 
-// A station's message: PARM.CNF, a report with its sounds used, whose group values stand in the frame, or MATCH.CNF.
+// A station's message: PARM.CNF, a report with its sounds used, whose group values stand in the frame, MATCH.CNF, or VALIDATE.CNF.
 pub(crate) enum StationMessage {
     ParmCnf,
     Report(u8),
     MatchCnf { nid: Nid, nmk: Nmk },
+    Validation,
 }
 
-// A station's message to us, with its run.
+// A station's message to us, with its run: 0 where it has none.
 pub(crate) struct Received {
     pub station: StationAddress,
     pub run: RunId,
@@ -75,6 +76,20 @@ fn addressed(config: Configuration, message: Message) -> Judged
                 station: station,
                 run: run,
                 message: StationMessage::Report(sounds),
+            },
+        ),
+        Message::ValidateCnf {
+            station,
+            car,
+            toggles: _,
+            result: _,
+        } => for_us(
+            config,
+            car,
+            Received {
+                station: station,
+                run: RunId(0),
+                message: StationMessage::Validation,
             },
         ),
         Message::SlacMatchCnf {

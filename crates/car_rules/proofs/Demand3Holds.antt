@@ -17,9 +17,9 @@ use Rattle.car_rules.specs.declared.State.the-variants.{Idle, Asking, Co
 use Rattle.car_rules.specs.Calls.{Call, start, frame, tick, linkUp, terminate}
 use Rattle.car_rules.specs.Constants.{leastOutput}
 use Rattle.car_rules.specs.Frames.{Effect, effectIn, ofOurRun, fromChosen, isExpected, stateRule, frameRule}
-use Rattle.car_rules.specs.Received.{StationMessage, parmCnf, report, matchCnf, Received, received, isForUs}
+use Rattle.car_rules.specs.Received.{StationMessage, parmCnf, report, matchCnf, validation, Received, received, isForUs}
 use Rattle.car_rules.specs.Rules.{configured, rule, step, outcome, after, keyQuery}
-use Rattle.car_rules.specs.Demand3.{isOurs, isOwn, isForeign, Marked, all, rest, OnlyForeign, outcomes, others, Same, Demand3}
+use Rattle.car_rules.specs.Demand3.{isOfMatching, isOurs, isOwn, isForeign, Marked, all, rest, OnlyForeign, outcomes, others, Same, Demand3}
 use Rattle.ends.proofs.Logic.{on-then}
 use Rattle.car_rules.proofs.Refusals.{refused-car}
 
@@ -29,40 +29,45 @@ use Rattle.car_rules.proofs.Refusals.{refused-car}
 abbrev Never : Done Car → Type 0
 Never d = ⊥
 
--- demand 3 and refusal 11 mean the same stations
-abbrev Agrees : State → StationAddress → Effect → Type 0
-Agrees st s x = isOurs st s ≡ fromChosen st s
+-- a message that demand 3 means, and demand 3 and refusal 11 mean the same stations
+abbrev Agrees : State → StationMessage → StationAddress → Effect → Type 0
+Agrees st m s x = (isOfMatching m ≡ true) × (isOurs st s ≡ fromChosen st s)
 
--- in a state that takes a message they do
-ours : (st : State) (m : StationMessage) (s : StationAddress) → OnYes (Agrees st s) (effectIn st m)
-unfolding isOurs fromChosen effectIn
+-- where a state takes the message it is so
+ours : (st : State) (m : StationMessage) (s : StationAddress) → OnYes (Agrees st m s) (effectIn st m)
+unfolding isOfMatching isOurs fromChosen effectIn
 ours Idle m s = tt
-ours (Asking t n) parmCnf s = refl
+ours (Asking t n) parmCnf s = (refl, refl)
 ours (Asking t n) (report k vs) s = tt
 ours (Asking t n) (matchCnf nid nmk) s = tt
-ours (Confirmed t) parmCnf s = refl
+ours (Asking t n) validation s = tt
+ours (Confirmed t) parmCnf s = (refl, refl)
 ours (Confirmed t) (report k vs) s = tt
 ours (Confirmed t) (matchCnf nid nmk) s = tt
-ours (Sounding k t g) parmCnf s = refl
-ours (Sounding k t g) (report n vs) s = refl
+ours (Confirmed t) validation s = tt
+ours (Sounding k t g) parmCnf s = (refl, refl)
+ours (Sounding k t g) (report n vs) s = (refl, refl)
 ours (Sounding k t g) (matchCnf nid nmk) s = tt
+ours (Sounding k t g) validation s = tt
 ours (Requesting t n d) parmCnf s = tt
-ours (Requesting t n d) (report k vs) s = refl
-ours (Requesting t n d) (matchCnf nid nmk) s = refl
+ours (Requesting t n d) (report k vs) s = (refl, refl)
+ours (Requesting t n d) (matchCnf nid nmk) s = (refl, refl)
+ours (Requesting t n d) validation s = tt
 ours (Joining t key) m s = tt
 ours (Matched key) m s = tt
 
-behind : (a b d : Bool) → a ≡ true → a && b && d ≡ false → b && d ≡ false
-behind true b d p q = q
-behind false b d p q = clash false p refl
+behind : (a b d e : Bool) → a ≡ true → b ≡ true → a && b && d && e ≡ false → d && e ≡ false
+behind true true d e p q h = h
+behind true false d e p q h = clash false q refl
+behind false b d e p q h = clash false p refl
 
 module _ (c : Car) where
   state-refuses : (y : Received) → isForUs (c .config) y ≡ true → isOwn c (yes y) ≡ false → OnYes Never (stateRule c y)
   unfolding isOwn stateRule
   state-refuses y f h = on-then Never (effectIn (c .state) (y .message)) _ (λ x e.
-      let agree = subst (OnYes (Agrees (c .state) (y .station))) e (ours (c .state) (y .message) (y .station)) in
+      let agree = subst (OnYes (Agrees (c .state) (y .message) (y .station))) e (ours (c .state) (y .message) (y .station)) in
       let b = ofOurRun c (y .run) in
-      let other : isExpected c y ≡ false = ap (λ (d : Bool). b && d) (sym agree) ∙ behind (isForUs (c .config) y) b _ f h in
+      let other : isExpected c y ≡ false = ap (λ (d : Bool). b && d) (sym (agree .1)) ∙ behind (isOfMatching (y .message)) (isForUs (c .config) y) b _ (agree .0) f h in
       on-check Never (isExpected c y) 11 _ (λ t. clash _ t other))
 
   frame-refuses : (room : ℕ) (x : Checked Received) → isOwn c x ≡ false → OnYes Never (frameRule c room x)

@@ -12,12 +12,12 @@ use Rattle.car_rules.specs.Choice.{total, least, choice}
 use Rattle.car_rules.specs.Frames.{sameStation, effectIn, fromChosen, hasReported, effectRule, stateRule, frameRule}
 use Rattle.car_rules.specs.Ticks.{tickDone}
 use Rattle.car_rules.specs.Rules.{configured, isIdle, rule, step, outcome}
-use Rattle.car_rules.specs.Demand3.{isOurs, isOwn, isForeign}
+use Rattle.car_rules.specs.Demand3.{isOfMatching, isOurs, isOwn, isForeign}
 use Rattle.car_rules.specs.Examples.{Examples}
 use Rattle.ends.proofs.Logic.{clash}
 
 pub examples-hold : Examples
-unfolding value bytes lowValue lowBytes kindRules readRules writing.frame tickTime only noReports frameFrom received total least choice sameStation effectIn fromChosen hasReported effectRule stateRule frameRule tickDone configured isIdle rule step outcome isOurs isOwn isForeign
+unfolding value bytes lowValue lowBytes kindRules readRules writing.frame tickTime only noReports frameFrom received total least choice sameStation effectIn fromChosen hasReported effectRule stateRule frameRule tickDone configured isIdle rule step outcome isOfMatching isOurs isOwn isForeign
 examples-hold = record {
   foreign = (λ e. clash _ e refl, (λ e. refl, (λ e. clash _ e refl, (λ e. clash _ e refl, (λ e. refl, (λ e. clash _ e refl, (λ e. clash _ e refl, tt)))))));
   whole = refl;
@@ -29,4 +29,7 @@ examples-hold = record {
   another = refl;
   same = refl;
   idle = refl;
+  validation = refl;
+  no-state = refl;
+  only-stations = refl;
 }

@@ -5,7 +5,7 @@ use mathlib.Core.Bool.{true}
 use mathlib.Core.List.{List}
 use lib.ListN.{drop}
 use Rattle.messages.specs.Layout.{Values, size, holds, read}
-use Rattle.messages.specs.Table.{Kind, slacParmReq, slacParmCnf, startAttenCharInd, attenCharInd, attenCharRsp, mnbcSoundInd, slacMatchReq, slacMatchCnf, attenProfileInd, head, isUnicast, payload, Message, addressed}
+use Rattle.messages.specs.Table.{Kind, slacParmReq, slacParmCnf, startAttenCharInd, attenCharInd, attenCharRsp, mnbcSoundInd, validateReq, validateCnf, slacMatchReq, slacMatchCnf, attenProfileInd, head, isUnicast, payload, Message, addressed}
 use Rattle.messages.specs.Reading.{Checked, no, yes, kindRules, frameRules, readRules}
 use Rattle.messages.specs.Writing.{isAddressed}
 use Rattle.messages.proofs.LayoutLaws.{and-left}
@@ -33,6 +33,8 @@ unicast-as startAttenCharInd d f vs a = tt
 unicast-as attenCharInd d f vs a = and-left (isUnicast f) (isUnicast d) a
 unicast-as attenCharRsp d f vs a = tt
 unicast-as mnbcSoundInd d f vs a = tt
+unicast-as validateReq d f vs a = tt
+unicast-as validateCnf d f vs a = and-left (isUnicast f) (isUnicast d) a
 unicast-as slacMatchReq d f vs a = tt
 unicast-as slacMatchCnf d f vs a = and-left (isUnicast f) (isUnicast d) a
 unicast-as attenProfileInd d f vs a = tt

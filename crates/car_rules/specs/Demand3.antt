@@ -11,7 +11,7 @@ use Rattle.car_rules.specs.declared.State.{State}
 use Rattle.car_rules.specs.declared.State.the-variants.{Idle, Asking, Confirmed, Sounding, Requesting, Joining, Matched}
 use Rattle.car_rules.specs.Calls.{Call, start, frame, tick, linkUp, terminate}
 use Rattle.car_rules.specs.Frames.{sameStation, ofOurRun}
-use Rattle.car_rules.specs.Received.{Received, received, isForUs}
+use Rattle.car_rules.specs.Received.{StationMessage, parmCnf, report, matchCnf, validation, Received, received, isForUs}
 use Rattle.car_rules.specs.Rules.{step, outcome, after, keyQuery}
 
 -- ---- foreign frames
@@ -26,10 +26,17 @@ isOurs (Requesting t n d) s = sameStation s d
 isOurs (Joining t key) s = sameStation s (key .station)
 isOurs (Matched key) s = sameStation s (key .station)
 
--- "PARM.CNF, ATTEN_CHAR.IND or MATCH.CNF to us and not from us, with the run that the car has when it comes"
+-- "PARM.CNF, ATTEN_CHAR.IND or MATCH.CNF"
+unfoldable pub isOfMatching : StationMessage → Bool
+isOfMatching parmCnf = true
+isOfMatching (report k vs) = true
+isOfMatching (matchCnf nid nmk) = true
+isOfMatching validation = false
+
+-- one of these "to us and not from us, with the run that the car has when it comes"
 unfoldable pub isOwn : Car → Checked Received → Bool
 isOwn c (no n) = false
-isOwn c (yes x) = isForUs (c .config) x && ofOurRun c (x .run) && isOurs (c .state) (x .station)
+isOwn c (yes x) = isOfMatching (x .message) && isForUs (c .config) x && ofOurRun c (x .run) && isOurs (c .state) (x .station)
 
 -- "a foreign frame: every frame call, with any output, unless its octets read as" one of its own
 unfoldable pub isForeign : Car → Call → Bool

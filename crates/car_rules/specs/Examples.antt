@@ -4,8 +4,9 @@ use mathlib.Core.Path.{_≡_}
 use mathlib.Core.Bool.{true, false}
 use mathlib.Core.List.{List, [], _∷_, _++_}
 use lib.ListN.{length, replicate}
+use Rattle.messages.specs.Table as table
 use Rattle.messages.specs.Table.{Message, slacParmCnf, attenCharInd, slacMatchReq, groupCount}
-use Rattle.messages.specs.Reading.{yes}
+use Rattle.messages.specs.Reading.{no, yes}
 use Rattle.messages.specs.Writing as writing
 use Rattle.ends.specs.declared.Indication.the-variants.{Found}
 use Rattle.ends.specs.Outcomes.{framesOf}
@@ -21,9 +22,13 @@ use Rattle.car_rules.specs.Demand3.{isForeign, Marked, all, rest, OnlyFo
 abbrev car : Car
 car = configured (record { 0 = 0x020000000001 }) 0
 
--- start in run 1
+-- start in a run
+abbrev startsIn : ℕ → Call
+startsIn run = start (record { 0 = run }) (record { 0 = 2; 1 = 3 }) 0 leastOutput
+
+-- in run 1
 abbrev starts : Call
-starts = start (record { 0 = 1 }) (record { 0 = 2; 1 = 3 }) 0 leastOutput
+starts = startsIn 1
 
 -- a tick
 abbrev at : ℕ → Call
@@ -43,6 +48,13 @@ parmCnf n run = sent (record { kind = slacParmCnf; dst = 0x020000000001; src = s
 
 abbrev report : ℕ → ℕ → Call
 report n run = sent (record { kind = attenCharInd; dst = 0x020000000001; src = station n; values = (run, (10, (replicate groupCount 5, tt))) })
+
+-- VALIDATE.CNF of station n, with no toggles and the result 01, and VALIDATE.REQ of another car to it
+abbrev validateCnf : ℕ → Call
+validateCnf n = sent (record { kind = table.validateCnf; dst = 0x020000000001; src = station n; values = (0, (1, tt)) })
+
+abbrev validateReq : ℕ → Call
+validateReq n = sent (record { kind = table.validateReq; dst = station n; src = 0x020000000002; values = (0, tt) })
 
 -- MATCH.REQ to station n, in run 1
 abbrev matchReq : ℕ → List ℕ
@@ -87,3 +99,7 @@ pub record Examples : Type 0 where
   pub same : isForeign (after car chosen) (report 0xAA 1) ≡ false
   -- in Idle a PARM.CNF that would be the car's own is foreign
   pub idle : isForeign (after car (starts ∷ terminate ∷ [])) (parmCnf 0xAA 1) ≡ true
+  -- VALIDATE.CNF is foreign in any run, since no state takes it; VALIDATE.REQ is for stations
+  pub validation : isForeign (after car (startsIn 0 ∷ [])) (validateCnf 0xAA) ≡ true
+  pub no-state : outcome (after car chosen) (validateCnf 0xAA) ≡ no 8
+  pub only-stations : outcome (after car chosen) (validateReq 0xAA) ≡ no 19

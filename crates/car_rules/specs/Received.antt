@@ -8,18 +8,19 @@ use Rattle.messages.specs.declared.Nmk.{Nmk}
 use Rattle.messages.specs.declared.RunId.{RunId}
 use Rattle.messages.specs.declared.StationAddress.{StationAddress}
 use Rattle.messages.specs.Layout.{Values}
-use Rattle.messages.specs.Table.{Kind, slacParmReq, slacParmCnf, startAttenCharInd, attenCharInd, attenCharRsp, mnbcSoundInd, slacMatchReq, slacMatchCnf, attenProfileInd, payload, Message}
+use Rattle.messages.specs.Table.{Kind, slacParmReq, slacParmCnf, startAttenCharInd, attenCharInd, attenCharRsp, mnbcSoundInd, validateReq, validateCnf, slacMatchReq, slacMatchCnf, attenProfileInd, payload, Message}
 use Rattle.messages.specs.Reading.{Checked, no, yes, readRules}
 use Rattle.ends.specs.Outcomes.{andThen}
 use Rattle.car_rules.specs.declared.Configuration.{Configuration}
 
--- PARM.CNF, the report ATTEN_CHAR.IND with its sounds used and its group values, and MATCH.CNF with NID and NMK
+-- PARM.CNF, the report ATTEN_CHAR.IND with its sounds used and its group values, MATCH.CNF with NID and NMK, and VALIDATE.CNF
 pub data StationMessage : Type 0 where
   parmCnf : StationMessage
   report : ℕ → List ℕ → StationMessage
   matchCnf : Nid → Nmk → StationMessage
+  validation : StationMessage
 
--- a station's message, its run, the station that sent it, and the frame's destination
+-- a station's message, its run (0 where it has none), the station that sent it, and the frame's destination
 pub record Received : Type 0 where
   pub station : StationAddress
   pub dst : ℕ
@@ -38,6 +39,8 @@ receivedAs startAttenCharInd d f vs = no 19
 receivedAs attenCharInd d f vs = fromStation d f (vs .0) (report (vs .1 .0) (vs .1 .1 .0))
 receivedAs attenCharRsp d f vs = no 19
 receivedAs mnbcSoundInd d f vs = no 19
+receivedAs validateReq d f vs = no 19
+receivedAs validateCnf d f vs = fromStation d f 0 validation
 receivedAs slacMatchReq d f vs = no 19
 receivedAs slacMatchCnf d f vs = fromStation d f (vs .0) (matchCnf (record { 0 = vs .1 .0 }) (record { 0 = vs .1 .1 .0; 1 = vs .1 .1 .1 .0 }))
 receivedAs attenProfileInd d f vs = no 19

@@ -11,7 +11,7 @@ use Rattle.messages.specs.Claims.{NumbersDiffer, AnswersDiffer, WrittenD
 use Rattle.messages.specs.declared.Refusal.{Refusal}
 use Rattle.messages.specs.declared.Refusal.the-variants.{TooShort, BadHead, UnknownType, TooLong, BadAddress, BadOctet, NotForUs, WrongState, AdmissionClosed, RecordsFull, NoRecord, WrongPhase, BadSoundCount, TickGap, OutputTooShort, BadConfiguration, OnlyForCars, ReportsFull, OnlyForStations, NoSounds}
 use Rattle.messages.specs.declared.Message.{Message}
-use Rattle.messages.specs.declared.Message.the-variants.{SlacParmReq, SlacParmCnf, StartAttenCharInd, AttenCharInd, AttenCharRsp, MnbcSoundInd, SlacMatchReq, SlacMatchCnf, AttenProfileInd}
+use Rattle.messages.specs.declared.Message.the-variants.{SlacParmReq, SlacParmCnf, StartAttenCharInd, AttenCharInd, AttenCharRsp, MnbcSoundInd, ValidateReq, ValidateCnf, SlacMatchReq, SlacMatchCnf, AttenProfileInd}
 use Rattle.messages.specs.declared.ReadAnswer.the-variants as readAnswer
 use Rattle.messages.specs.declared.Written.the-variants as written
 use Rattle.messages.proofs.ReadLaws.{messageIn}
@@ -64,6 +64,8 @@ message-back (StartAttenCharInd c r) g = refl
 message-back (AttenCharInd s c r n) g = refl
 message-back (AttenCharRsp c s r) g = refl
 message-back (MnbcSoundInd c n r x) g = refl
+message-back (ValidateReq c t d) g = refl
+message-back (ValidateCnf s n c x) g = refl
 message-back (SlacMatchReq c s r) g = refl
 message-back (SlacMatchCnf s c r n k) g = refl
 message-back (AttenProfileInd m s c) g = refl

@@ -19,7 +19,7 @@ use Rattle.messages.specs.Reading.{Checked, no, yes, check, ofType, kind
 use Rattle.messages.specs.Answers.{numberOf, messageOf}
 use Rattle.messages.specs.Private.{kindOf, Reads}
 use Rattle.messages.specs.declared.Message.{Message}
-use Rattle.messages.specs.declared.Message.the-variants.{SlacParmReq, SlacParmCnf, StartAttenCharInd, AttenCharInd, AttenCharRsp, MnbcSoundInd, SlacMatchReq, SlacMatchCnf, AttenProfileInd}
+use Rattle.messages.specs.declared.Message.the-variants.{SlacParmReq, SlacParmCnf, StartAttenCharInd, AttenCharInd, AttenCharRsp, MnbcSoundInd, ValidateReq, ValidateCnf, SlacMatchReq, SlacMatchCnf, AttenProfileInd}
 use Rattle.messages.specs.declared.ReadAnswer.{ReadAnswer}
 use Rattle.messages.specs.declared.ReadAnswer.the-variants.{Read, Refused}
 use Rattle.messages.specs.declared.Refusal.{Refusal}
@@ -156,13 +156,15 @@ pub refused-groups : (a : ReadAnswer) (x : Refusal) (y : Checked table.Message) 
 refused-groups a x y h e = ap groupsOf (subst (λ (r : ReadAnswer). Reads r y) e h)
 
 -- the other messages have none
-pub no-groups-in : (m : Message) (g : List ℕ) → OneOf (0 ∷ 1 ∷ 2 ∷ 4 ∷ 5 ∷ 6 ∷ 7 ∷ []) (tagOf the-type m) → noGroups ≡ groupsOf (yes (messageOf m g))
+pub no-groups-in : (m : Message) (g : List ℕ) → OneOf (0 ∷ 1 ∷ 2 ∷ 4 ∷ 5 ∷ 6 ∷ 7 ∷ 8 ∷ 9 ∷ []) (tagOf the-type m) → noGroups ≡ groupsOf (yes (messageOf m g))
 no-groups-in (SlacParmReq c r) g t = refl
 no-groups-in (SlacParmCnf s c r) g t = refl
 no-groups-in (StartAttenCharInd c r) g t = refl
-no-groups-in (AttenCharInd s c r n) g t = absurd (miss (0 ∷ 1 ∷ 2 ∷ 4 ∷ 5 ∷ 6 ∷ 7 ∷ []) 3 tt t)
+no-groups-in (AttenCharInd s c r n) g t = absurd (miss (0 ∷ 1 ∷ 2 ∷ 4 ∷ 5 ∷ 6 ∷ 7 ∷ 8 ∷ 9 ∷ []) 3 tt t)
 no-groups-in (AttenCharRsp c s r) g t = refl
 no-groups-in (MnbcSoundInd c n r x) g t = refl
+no-groups-in (ValidateReq c x d) g t = refl
+no-groups-in (ValidateCnf s n c x) g t = refl
 no-groups-in (SlacMatchReq c s r) g t = refl
 no-groups-in (SlacMatchCnf s c r n k) g t = refl
-no-groups-in (AttenProfileInd m s c) g t = absurd (miss (0 ∷ 1 ∷ 2 ∷ 4 ∷ 5 ∷ 6 ∷ 7 ∷ []) 8 tt t)
+no-groups-in (AttenProfileInd m s c) g t = absurd (miss (0 ∷ 1 ∷ 2 ∷ 4 ∷ 5 ∷ 6 ∷ 7 ∷ 8 ∷ 9 ∷ []) 10 tt t)

@@ -6,7 +6,7 @@ use mathlib.Core.List.{List}
 use mathlib.Core.Option.{Option, none, some}
 use native.Mathlib.Omega.{arith}
 use Rattle.messages.specs.Layout.{Values}
-use Rattle.messages.specs.Table.{Kind, slacParmReq, slacParmCnf, startAttenCharInd, attenCharInd, attenCharRsp, mnbcSoundInd, slacMatchReq, slacMatchCnf, attenProfileInd, isUnicast, payload, Message, addressed}
+use Rattle.messages.specs.Table.{Kind, slacParmReq, slacParmCnf, startAttenCharInd, attenCharInd, attenCharRsp, mnbcSoundInd, validateReq, validateCnf, slacMatchReq, slacMatchCnf, attenProfileInd, isUnicast, payload, Message, addressed}
 use Rattle.messages.specs.Reading.{Checked, no, yes, readRules, carIn, carOf}
 use Rattle.messages.specs.Writing.{isAddressed}
 use Rattle.messages.specs.Claims.{CarsUnicast}
@@ -28,6 +28,8 @@ module _ (c : CarAddress) where
   named-in attenCharInd d f vs a e = none-named e
   named-in attenCharRsp d f vs a e = this f (and-left (isUnicast f) _ a) e
   named-in mnbcSoundInd d f vs a e = this f (and-left (isUnicast f) _ a) e
+  named-in validateReq d f vs a e = this f (and-left (isUnicast f) _ a) e
+  named-in validateCnf d f vs a e = none-named e
   named-in slacMatchReq d f vs a e = this f (and-left (isUnicast f) _ a) e
   named-in slacMatchCnf d f vs a e = none-named e
   named-in attenProfileInd d f vs a e = this (vs .0) (and-right (isUnicast f && isUnicast d) _ a) e

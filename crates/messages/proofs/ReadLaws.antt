@@ -9,12 +9,12 @@ use lib.ListN.{length}
 use Rattle.octets.specs.Octets.{value, lowValue, Octets}
 use Rattle.messages.specs.Layout.{Field, is, number, low, octets, reserved, Values, size, holds, read}
 use Rattle.messages.specs.Table as table
-use Rattle.messages.specs.Table.{Kind, slacParmReq, slacParmCnf, startAttenCharInd, attenCharInd, attenCharRsp, mnbcSoundInd, slacMatchReq, slacMatchCnf, attenProfileInd, head, broadcast, isUnicast, payload, addressed}
+use Rattle.messages.specs.Table.{Kind, slacParmReq, slacParmCnf, startAttenCharInd, attenCharInd, attenCharRsp, mnbcSoundInd, validateReq, validateCnf, slacMatchReq, slacMatchCnf, attenProfileInd, head, broadcast, isUnicast, payload, addressed}
 use Rattle.messages.specs.Reading.{no, yes, check, ofType, kinds, sized, kindRules, payloadRules, groupsIn}
 use Rattle.messages.specs.Answers.{messageOf, answerOf}
 use Rattle.messages.specs.Private.{Reads}
 use Rattle.messages.specs.declared.Message.{Message}
-use Rattle.messages.specs.declared.Message.the-variants.{SlacParmReq, SlacParmCnf, StartAttenCharInd, AttenCharInd, AttenCharRsp, MnbcSoundInd, SlacMatchReq, SlacMatchCnf, AttenProfileInd}
+use Rattle.messages.specs.declared.Message.the-variants.{SlacParmReq, SlacParmCnf, StartAttenCharInd, AttenCharInd, AttenCharRsp, MnbcSoundInd, ValidateReq, ValidateCnf, SlacMatchReq, SlacMatchCnf, AttenProfileInd}
 use Rattle.messages.specs.declared.ReadAnswer.{ReadAnswer}
 use Rattle.octets.proofs.OctetLaws.{low-lt}
 use Rattle.messages.proofs.LayoutLaws.{and-right}
@@ -45,6 +45,8 @@ messageIn startAttenCharInd d f vs = StartAttenCharInd (record { 0 = f }) (recor
 messageIn attenCharInd d f vs = AttenCharInd (record { 0 = f }) (record { 0 = d }) (record { 0 = vs .0 }) (vs .1 .0)
 messageIn attenCharRsp d f vs = AttenCharRsp (record { 0 = f }) (record { 0 = d }) (record { 0 = vs .0 })
 messageIn mnbcSoundInd d f vs = MnbcSoundInd (record { 0 = f }) (vs .0) (record { 0 = vs .1 .0 }) (record { 0 = vs .1 .1 .0; 1 = vs .1 .1 .1 .0 })
+messageIn validateReq d f vs = ValidateReq (record { 0 = f }) (vs .0) (record { 0 = d })
+messageIn validateCnf d f vs = ValidateCnf (record { 0 = f }) (vs .0) (record { 0 = d }) (vs .1 .0)
 messageIn slacMatchReq d f vs = SlacMatchReq (record { 0 = f }) (record { 0 = d }) (record { 0 = vs .0 })
 messageIn slacMatchCnf d f vs = SlacMatchCnf (record { 0 = f }) (record { 0 = d }) (record { 0 = vs .0 }) (record { 0 = vs .1 .0 }) (record { 0 = vs .1 .1 .0; 1 = vs .1 .1 .1 .0 })
 messageIn attenProfileInd d f vs = AttenProfileInd (record { 0 = f }) (record { 0 = d }) (record { 0 = vs .0 })
@@ -61,6 +63,8 @@ message-in startAttenCharInd d f vs e = to-all (isUnicast f) d (λ t. record { k
 message-in attenCharInd d f vs e = refl
 message-in attenCharRsp d f vs e = refl
 message-in mnbcSoundInd d f vs e = to-all (isUnicast f) d (λ t. record { kind = mnbcSoundInd; dst = t; src = f; values = vs }) e
+message-in validateReq d f vs e = refl
+message-in validateCnf d f vs e = refl
 message-in slacMatchReq d f vs e = refl
 message-in slacMatchCnf d f vs e = refl
 message-in attenProfileInd d f vs e = refl

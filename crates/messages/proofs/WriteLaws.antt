@@ -13,15 +13,15 @@ use lib.Seq.{sets, length-sets}
 use Rattle.octets.specs.Octets.{bytes, splice}
 use Rattle.messages.specs.Layout.{Field, Values, width, size, encode, fits}
 use Rattle.messages.specs.Table as table
-use Rattle.messages.specs.Table.{groupCount, typeOf, payloadSize, head, filledSize, writtenSize, broadcast, isUnicast, matchFields, keyFields, payload}
+use Rattle.messages.specs.Table.{groupCount, typeOf, payloadSize, head, filledSize, writtenSize, broadcast, isUnicast, timerLimit, resultLimit, matchFields, keyFields, payload}
 use Rattle.messages.specs.Writing.{headOctets, payloadOctets, padding, frame, isAddressed, isLimited, writeRules, lengthOf, octetsOf}
 use Rattle.messages.specs.Reading.{Checked, no, yes}
 use Rattle.messages.specs.Answers.{messageOf}
-use Rattle.messages.specs.Private.{kindOf, toAll, toOne, HeadOf}
+use Rattle.messages.specs.Private.{kindOf, toAll, toOne, toEither, HeadOf}
 use Rattle.messages.specs.declared.kinds.Kind.the-variants as kind
 use Rattle.messages.specs.declared.writer.Head.{Head}
 use Rattle.messages.specs.declared.Message.{Message}
-use Rattle.messages.specs.declared.Message.the-variants.{SlacParmReq, SlacParmCnf, StartAttenCharInd, AttenCharInd, AttenCharRsp, MnbcSoundInd, SlacMatchReq, SlacMatchCnf, AttenProfileInd}
+use Rattle.messages.specs.declared.Message.the-variants.{SlacParmReq, SlacParmCnf, StartAttenCharInd, AttenCharInd, AttenCharRsp, MnbcSoundInd, ValidateReq, ValidateCnf, SlacMatchReq, SlacMatchCnf, AttenProfileInd}
 use Rattle.octets.proofs.OctetLaws.{length-bytes, bytes-zero, sets-append, sets-splice, sets-lent}
 use Rattle.messages.proofs.TableLaws.{size-payload, unicast-lt, addressed-lt}
 use Rattle.messages.proofs.CheckLaws.{pass, fail}
@@ -59,6 +59,8 @@ full-message (StartAttenCharInd c r) g e = tt
 full-message (AttenCharInd s c r n) g e = (e, tt)
 full-message (AttenCharRsp c s r) g e = tt
 full-message (MnbcSoundInd c n r x) g e = tt
+full-message (ValidateReq c t d) g e = tt
+full-message (ValidateCnf s n c x) g e = tt
 full-message (SlacMatchReq c s r) g e = tt
 full-message (SlacMatchCnf s c r n k) g e = tt
 full-message (AttenProfileInd m s c) g e = (e, tt)
@@ -150,11 +152,13 @@ Typed (StartAttenCharInd c r) = r .0 < 2 ^ 64
 Typed (AttenCharInd s c r n) = (r .0 < 2 ^ 64) × (n < 2 ^ 8)
 Typed (AttenCharRsp c s r) = r .0 < 2 ^ 64
 Typed (MnbcSoundInd c n r x) = (n < 2 ^ 8) × (r .0 < 2 ^ 64) × (x .0 < 2 ^ 64) × (x .1 < 2 ^ 64)
+Typed (ValidateReq c t d) = t < 2 ^ 8
+Typed (ValidateCnf s n c x) = (n < 2 ^ 8) × (x < 2 ^ 8)
 Typed (SlacMatchReq c s r) = r .0 < 2 ^ 64
 Typed (SlacMatchCnf s c r n k) = (r .0 < 2 ^ 64) × (k .0 < 2 ^ 64) × (k .1 < 2 ^ 64)
 Typed (AttenProfileInd m s c) = Unit {0}
 
--- and what is left to test: NID
+-- and what is left to test: NID, a timer, a result
 abbrev pub limitOf : Message → Bool
 limitOf (SlacParmReq c r) = true
 limitOf (SlacParmCnf s c r) = true
@@ -162,6 +166,8 @@ limitOf (StartAttenCharInd c r) = true
 limitOf (AttenCharInd s c r n) = true
 limitOf (AttenCharRsp c s r) = true
 limitOf (MnbcSoundInd c n r x) = true
+limitOf (ValidateReq c t d) = ltb t (timerLimit (d .0))
+limitOf (ValidateCnf s n c x) = ltb x resultLimit
 limitOf (SlacMatchReq c s r) = true
 limitOf (SlacMatchCnf s c r n k) = ltb (n .0) (2 ^ 54)
 limitOf (AttenProfileInd m s c) = true
@@ -181,7 +187,11 @@ same-bool true y f g = sym (f refl)
 same-bool false true f g = absurd (false≢true (g refl))
 same-bool false false f g = refl
 
--- a message's values fit, but for NID
+-- values that fit where one of them is below its limit
+by-limit : (fs : List Field) (vs : Values fs) (v b : ℕ) → (v < b → Fits fs vs) → (Fits fs vs → v < b) → ltb v b ≡ fits fs vs
+by-limit fs vs v b f g = same-bool (ltb v b) (fits fs vs) (λ e. from-fits fs vs (f (ltb-true v b e))) (λ e. lt-ltb v b (g (to-fits fs vs e)))
+
+-- a message's values fit, but for these
 limits : (m : Message) (g : List ℕ) → Typed m → length g ≡ groupCount → isAddressed (messageOf m g) ≡ true → limitOf m ≡ isLimited (messageOf m g)
 limits (SlacParmReq c r) g t l a = sym (from-fits (payload table.slacParmReq broadcast (c .0)) (r .0, tt) (zero-fits 2, (t, tt)))
 limits (SlacParmCnf s c r) g t l a =
@@ -198,16 +208,19 @@ limits (AttenCharRsp c s r) g t l a =
     sym (from-fits (payload table.attenCharRsp (s .0) (c .0)) (r .0, tt) (zero-fits 2, (d .1, (t, (zero-fits 34, (zero-fits 1, tt))))))
 limits (MnbcSoundInd c n r x) g t l a =
     sym (from-fits (payload table.mnbcSoundInd broadcast (c .0)) (n, (r .0, (x .0, (x .1, tt)))) (zero-fits 2, (zero-fits 17, (t .0, (t .1, (zero-fits 8, (t .2, (t .3, tt))))))))
+limits (ValidateReq c t d) g h l a =
+    by-limit (payload table.validateReq (d .0) (c .0)) (t, tt) t (timerLimit (d .0)) (λ b. (zero-fits 1, ((b, h), (omega arith, tt)))) (λ w. w .1 .0 .0)
+limits (ValidateCnf s n c x) g h l a =
+    by-limit (payload table.validateCnf (c .0) (s .0)) (n, (x, tt)) x resultLimit (λ b. (zero-fits 1, (h .0, ((b, h .1), tt)))) (λ w. w .1 .1 .0 .0)
 limits (SlacMatchReq c s r) g t l a =
     let d = addressed-lt table.slacMatchReq (s .0) (c .0) (r .0, tt) a in
     sym (from-fits (payload table.slacMatchReq (s .0) (c .0)) (r .0, tt) (match-fits 0x3E00 (c .0) (s .0) (r .0) [] tt (omega arith) (d .1) (d .0) t tt))
 limits (SlacMatchCnf s c r n k) g t l a =
     let vs : Values (payload table.slacMatchCnf (c .0) (s .0)) = (r .0, (n .0, (k .0, (k .1, tt)))) in
     let d = addressed-lt table.slacMatchCnf (c .0) (s .0) vs a in
-    same-bool (ltb (n .0) (2 ^ 54)) (fits (payload table.slacMatchCnf (c .0) (s .0)) vs)
-    (λ b. from-fits (payload table.slacMatchCnf (c .0) (s .0)) vs
-    (match-fits 0x5600 (c .0) (s .0) (r .0) keyFields (vs .1) (omega arith) (d .0) (d .1) (t .0) (key-fits (n .0) (k .0) (k .1) (ltb-true (n .0) (2 ^ 54) b) (t .1) (t .2))))
-    (λ b. lt-ltb (n .0) (2 ^ 54) (to-fits (payload table.slacMatchCnf (c .0) (s .0)) vs b .1 .1 .1 .1 .1 .1 .1 .1 .0 .0))
+    by-limit (payload table.slacMatchCnf (c .0) (s .0)) vs (n .0) (2 ^ 54)
+    (λ b. match-fits 0x5600 (c .0) (s .0) (r .0) keyFields (vs .1) (omega arith) (d .0) (d .1) (t .0) (key-fits (n .0) (k .0) (k .1) b (t .1) (t .2)))
+    (λ w. w .1 .1 .1 .1 .1 .1 .1 .1 .0 .0)
 limits (AttenProfileInd m s c) g t l a =
     sym (from-fits (payload table.attenProfileInd (s .0) (m .0)) (c .0, (g, tt)) (unicast-lt (c .0) (and-right (isUnicast (m .0) && isUnicast (s .0)) _ a), (omega arith, (zero-fits 1, (l, tt)))))
 
@@ -219,6 +232,8 @@ headIn (StartAttenCharInd c r) = toAll kind.StartAttenCharInd (c .0)
 headIn (AttenCharInd s c r n) = toOne kind.AttenCharInd (c .0) (s .0) true true
 headIn (AttenCharRsp c s r) = toOne kind.AttenCharRsp (s .0) (c .0) true true
 headIn (MnbcSoundInd c n r x) = toAll kind.MnbcSoundInd (c .0)
+headIn (ValidateReq c t d) = toEither kind.ValidateReq (d .0) (c .0) (ltb t (timerLimit (d .0)))
+headIn (ValidateCnf s n c x) = toOne kind.ValidateCnf (c .0) (s .0) true (ltb x resultLimit)
 headIn (SlacMatchReq c s r) = toOne kind.SlacMatchReq (s .0) (c .0) true true
 headIn (SlacMatchCnf s c r n k) = toOne kind.SlacMatchCnf (c .0) (s .0) true (ltb (n .0) (2 ^ 54))
 headIn (AttenProfileInd m s c) = toOne kind.AttenProfileInd (s .0) (m .0) (isUnicast (c .0)) true
@@ -231,6 +246,8 @@ module _ (g : List ℕ) (l : length g ≡ groupCount) where
   head-in (AttenCharInd s c r n) t = record { kind = refl; dst = refl; src = refl; addressed = and-true _; limited = limits (AttenCharInd s c r n) g t l }
   head-in (AttenCharRsp c s r) t = record { kind = refl; dst = refl; src = refl; addressed = and-true _; limited = limits (AttenCharRsp c s r) g t l }
   head-in (MnbcSoundInd c n r x) t = record { kind = refl; dst = refl; src = refl; addressed = sym (and-true _); limited = limits (MnbcSoundInd c n r x) g t l }
+  head-in (ValidateReq c x d) t = record { kind = refl; dst = refl; src = refl; addressed = refl; limited = limits (ValidateReq c x d) g t l }
+  head-in (ValidateCnf s n c x) t = record { kind = refl; dst = refl; src = refl; addressed = and-true _; limited = limits (ValidateCnf s n c x) g t l }
   head-in (SlacMatchReq c s r) t = record { kind = refl; dst = refl; src = refl; addressed = and-true _; limited = limits (SlacMatchReq c s r) g t l }
   head-in (SlacMatchCnf s c r n k) t = record { kind = refl; dst = refl; src = refl; addressed = and-true _; limited = limits (SlacMatchCnf s c r n k) g t l }
   head-in (AttenProfileInd m s c) t = record { kind = refl; dst = refl; src = refl; addressed = refl; limited = limits (AttenProfileInd m s c) g t l }

@@ -7,7 +7,7 @@ use Rattle.messages.specs.Reading.{Checked, no, yes}
 use Rattle.messages.specs.declared.Refusal.{Refusal}
 use Rattle.messages.specs.declared.Refusal.the-variants.{TooShort, BadHead, UnknownType, TooLong, BadAddress, BadOctet, NotForUs, WrongState, AdmissionClosed, RecordsFull, NoRecord, WrongPhase, BadSoundCount, TickGap, OutputTooShort, BadConfiguration, OnlyForCars, ReportsFull, OnlyForStations, NoSounds}
 use Rattle.messages.specs.declared.Message.{Message}
-use Rattle.messages.specs.declared.Message.the-variants.{SlacParmReq, SlacParmCnf, StartAttenCharInd, AttenCharInd, AttenCharRsp, MnbcSoundInd, SlacMatchReq, SlacMatchCnf, AttenProfileInd}
+use Rattle.messages.specs.declared.Message.the-variants.{SlacParmReq, SlacParmCnf, StartAttenCharInd, AttenCharInd, AttenCharRsp, MnbcSoundInd, ValidateReq, ValidateCnf, SlacMatchReq, SlacMatchCnf, AttenProfileInd}
 use Rattle.messages.specs.declared.ReadAnswer.{ReadAnswer}
 use Rattle.messages.specs.declared.ReadAnswer.the-variants as readAnswer
 use Rattle.messages.specs.declared.Written.{Written}
@@ -44,6 +44,8 @@ messageOf (StartAttenCharInd car run) g = record { kind = table.startAttenCharIn
 messageOf (AttenCharInd station car run sounds) g = record { kind = table.attenCharInd; dst = car .0; src = station .0; values = (run .0, (sounds, (g, tt))) }
 messageOf (AttenCharRsp car station run) g = record { kind = table.attenCharRsp; dst = station .0; src = car .0; values = (run .0, tt) }
 messageOf (MnbcSoundInd car count run random) g = record { kind = table.mnbcSoundInd; dst = broadcast; src = car .0; values = (count, (run .0, (random .0, (random .1, tt)))) }
+messageOf (ValidateReq car timer receiver) g = record { kind = table.validateReq; dst = receiver .0; src = car .0; values = (timer, tt) }
+messageOf (ValidateCnf station toggles car result) g = record { kind = table.validateCnf; dst = car .0; src = station .0; values = (toggles, (result, tt)) }
 messageOf (SlacMatchReq car station run) g = record { kind = table.slacMatchReq; dst = station .0; src = car .0; values = (run .0, tt) }
 messageOf (SlacMatchCnf station car run nid nmk) g = record { kind = table.slacMatchCnf; dst = car .0; src = station .0; values = (run .0, (nid .0, (nmk .0, (nmk .1, tt)))) }
 messageOf (AttenProfileInd modem station car) g = record { kind = table.attenProfileInd; dst = station .0; src = modem .0; values = (car .0, (g, tt)) }

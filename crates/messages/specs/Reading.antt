@@ -6,7 +6,7 @@ use mathlib.Core.Option.{Option, none, some}
 use lib.Dec.{eqb, leb}
 use lib.ListN.{length, drop, replicate}
 use Rattle.messages.specs.Layout.{Values, size, holds, read}
-use Rattle.messages.specs.Table.{Kind, slacParmReq, slacParmCnf, startAttenCharInd, attenCharInd, attenCharRsp, mnbcSoundInd, slacMatchReq, slacMatchCnf, attenProfileInd, groupCount, typeOf, head, filledSize, writtenSize, payload, Message, addressed}
+use Rattle.messages.specs.Table.{Kind, slacParmReq, slacParmCnf, startAttenCharInd, attenCharInd, attenCharRsp, mnbcSoundInd, validateReq, validateCnf, slacMatchReq, slacMatchCnf, attenProfileInd, groupCount, typeOf, head, filledSize, writtenSize, payload, Message, addressed}
 use Rattle.messages.specs.declared.CarAddress.{CarAddress}
 
 -- "numbers given back instead of an answer": a refusal's number, or the answer
@@ -27,7 +27,7 @@ ofType t (k ∷ ks) = cond (eqb t (typeOf k)) (some k) (ofType t ks)
 
 -- the rows of the table
 abbrev pub kinds : List Kind
-kinds = slacParmReq ∷ slacParmCnf ∷ startAttenCharInd ∷ attenCharInd ∷ attenCharRsp ∷ mnbcSoundInd ∷ slacMatchReq ∷ slacMatchCnf ∷ attenProfileInd ∷ []
+kinds = slacParmReq ∷ slacParmCnf ∷ startAttenCharInd ∷ attenCharInd ∷ attenCharRsp ∷ mnbcSoundInd ∷ validateReq ∷ validateCnf ∷ slacMatchReq ∷ slacMatchCnf ∷ attenProfileInd ∷ []
 
 -- by the type: 3, then 1 where the payload is short, then 4
 abbrev pub sized : Option Kind → ℕ → Checked Kind
@@ -69,6 +69,8 @@ groupsIn startAttenCharInd d f vs = noGroups
 groupsIn attenCharInd d f vs = vs .1 .1 .0
 groupsIn attenCharRsp d f vs = noGroups
 groupsIn mnbcSoundInd d f vs = noGroups
+groupsIn validateReq d f vs = noGroups
+groupsIn validateCnf d f vs = noGroups
 groupsIn slacMatchReq d f vs = noGroups
 groupsIn slacMatchCnf d f vs = noGroups
 groupsIn attenProfileInd d f vs = vs .1 .0
@@ -86,6 +88,8 @@ carIn startAttenCharInd d f vs = some (record { 0 = f })
 carIn attenCharInd d f vs = none
 carIn attenCharRsp d f vs = some (record { 0 = f })
 carIn mnbcSoundInd d f vs = some (record { 0 = f })
+carIn validateReq d f vs = some (record { 0 = f })
+carIn validateCnf d f vs = none
 carIn slacMatchReq d f vs = some (record { 0 = f })
 carIn slacMatchCnf d f vs = none
 carIn attenProfileInd d f vs = some (record { 0 = vs .0 })

@@ -28,7 +28,7 @@ frame m = headOctets m ++ (payloadOctets m ++ padding (m .kind))
 abbrev pub isAddressed : Message → Bool
 isAddressed m = addressed (m .kind) (m .dst) (m .src) (m .values)
 
--- every value fits its field: NID is below 2^54
+-- every value fits its field: NID, a timer and a result are below their limits
 abbrev pub isLimited : Message → Bool
 isLimited m = fits (payload (m .kind) (m .dst) (m .src)) (m .values)
 

@@ -1,4 +1,4 @@
-// The nine messages of SLAC matching (ISO 15118-3 Annex A over HomePlug Green PHY): reading and writing their frames.
+// The eleven messages of SLAC matching, the nine and the two of validation (ISO 15118-3 Annex A over HomePlug Green PHY): reading and writing their frames.
 mod group_values;
 mod kinds;
 mod reader;
@@ -8,7 +8,7 @@ use kinds::KindAnswer;
 ghost use mathlib.Core.Path.{_≡_};
 ghost use lib.ListN.{length};
 ghost use Rattle.octets.specs.Octets.{splice};
-ghost use Rattle.messages.specs.Table.{isUnicast};
+ghost use Rattle.messages.specs.Table.{isUnicast, isReceiver, timerLimit};
 ghost use Rattle.messages.specs.Reading.{readRules, groupsOf, noGroups};
 ghost use Rattle.messages.specs.Writing.{writeRules, lengthOf, octetsOf};
 ghost use Rattle.messages.specs.Answers.{numberOf, messageOf, answerOf, writtenOf};
@@ -21,6 +21,9 @@ pub struct CarAddress(pub u64);
 
 // The address of the modem that a station is driven through.
 pub struct ModemAddress(pub u64);
+
+// Whom a validate request goes to: one station, or all.
+pub struct Receiver(pub u64);
 
 // The RunID of one matching: its eight octets as a number, first octet most significant.
 pub struct RunId(pub u64);
@@ -96,6 +99,17 @@ pub enum Message {
         run: RunId,
         random: Random,
     },
+    ValidateReq {
+        car: CarAddress,
+        timer: u8,
+        receiver: Receiver,
+    },
+    ValidateCnf {
+        station: StationAddress,
+        toggles: u8,
+        car: CarAddress,
+        result: u8,
+    },
     SlacMatchReq {
         car: CarAddress,
         station: StationAddress,
@@ -133,6 +147,9 @@ pub const BROADCAST: u64 = 0xFFFFFFFFFFFF;
 // The first number that is no NID: 2^54.
 pub const NID_LIMIT: u64 = 0x40000000000000;
 
+// The first number that is no result of validation.
+pub const RESULT_LIMIT: u8 = 5;
+
 // A refusal's number, from 1 on.
 pub fn refusal_number(refusal: Refusal) -> u32
     ensures { λ r. ⌜ r ≡ numberOf refusal ⌝ }
@@ -166,6 +183,20 @@ pub fn is_unicast(address: u64) -> bool
     ensures { λ r. ⌜ r ≡ isUnicast address ⌝ }
 {
     (address != 0) & (address < 0x1000000000000) & (address / 0x10000000000 % 2 == 0)
+}
+
+// Whether a validate request may go to an address: a unicast one, or broadcast.
+pub(crate) fn is_receiver(address: u64) -> bool
+    ensures { λ r. ⌜ r ≡ isReceiver address ⌝ }
+{
+    (address == BROADCAST) | is_unicast(address)
+}
+
+// The first number that is no timer of a validate request to an address.
+pub(crate) fn timer_limit(address: u64) -> u64
+    ensures { λ r. ⌜ r ≡ timerLimit address ⌝ }
+{
+    if address == BROADCAST { 256 } else { 1 }
 }
 
 // Reads a frame: any octets, of any length.

@@ -7,14 +7,18 @@ use crate::ModemAddress;
 use crate::NID_LIMIT;
 use crate::Nid;
 use crate::Nmk;
+use crate::RESULT_LIMIT;
 use crate::Random;
 use crate::ReadAnswer;
+use crate::Receiver;
 use crate::Refusal;
 use crate::RunId;
 use crate::StationAddress;
+use crate::is_receiver;
 use crate::is_unicast;
 use crate::kinds::HEAD;
 use crate::kinds::Kind;
+use crate::timer_limit;
 use octets::is_zero;
 use octets::low_number_at;
 use octets::number_at;
@@ -24,7 +28,7 @@ ghost use mathlib.Core.List.{List, []};
 ghost use Prim.Native.Nat.{ℕ, _≤_};
 ghost use lib.ListN.{length};
 ghost use Rattle.octets.specs.Octets.{value};
-ghost use Rattle.messages.specs.Table.{slacParmReq, slacParmCnf, startAttenCharInd, attenCharInd, attenCharRsp, mnbcSoundInd, slacMatchReq, slacMatchCnf, attenProfileInd, filledSize, matchFields};
+ghost use Rattle.messages.specs.Table.{slacParmReq, slacParmCnf, startAttenCharInd, attenCharInd, attenCharRsp, mnbcSoundInd, validateReq, validateCnf, slacMatchReq, slacMatchCnf, attenProfileInd, filledSize, matchFields};
 ghost use Rattle.messages.specs.Layout.{holds};
 ghost use Rattle.messages.specs.Reading.{check, yes, payloadRules, frameRules};
 ghost use Rattle.messages.specs.Answers.{messageOf, answerOf};
@@ -182,6 +186,44 @@ fn atten_profile_ind(p: &[u8], dst: u64, src: u64) -> ReadAnswer
     )
 }
 
+fn validate_req(p: &[u8], dst: u64, src: u64) -> ReadAnswer
+    ensures { λ r. ⌜ Reads r (payloadRules validateReq dst src (now (p .entry))) ⌝ }
+{
+    let timer = octet_at(p, 1);
+    let addresses = is_unicast(src) & is_receiver(dst);
+    let fixed = is_zero(p, 0, 1)
+        & ((timer as u64) < timer_limit(dst))
+        & (number_at(p, 2, 1) == 0x01);
+    decide(
+        addresses,
+        fixed,
+        Message::ValidateReq {
+            car: CarAddress(src),
+            receiver: Receiver(dst),
+            timer: timer,
+        },
+    )
+}
+
+fn validate_cnf(p: &[u8], dst: u64, src: u64) -> ReadAnswer
+    ensures { λ r. ⌜ Reads r (payloadRules validateCnf dst src (now (p .entry))) ⌝ }
+{
+    let toggles = octet_at(p, 1);
+    let result = octet_at(p, 2);
+    let addresses = is_unicast(src) & is_unicast(dst);
+    let fixed = is_zero(p, 0, 1) & (result < RESULT_LIMIT);
+    decide(
+        addresses,
+        fixed,
+        Message::ValidateCnf {
+            station: StationAddress(src),
+            car: CarAddress(dst),
+            toggles: toggles,
+            result: result,
+        },
+    )
+}
+
 // Whether octets 0-65 of a match message are right but for the RunID: MVFLength, the car and the station, zero identifiers.
 fn is_match(p: &[u8], mvflength: u64, car: u64, station: u64) -> bool
     ensures { λ r. ⌜ r ≡ holds 0 (matchFields mvflength car station []) (now (p .entry)) ⌝ }
@@ -279,6 +321,16 @@ pub(crate) fn body(frame: &[u8], kind: Kind) -> ReadAnswer
         ),
         Kind::MnbcSoundInd => mnbc_sound_ind(
             &frame[HEAD..HEAD + 52],
+            destination(frame),
+            source(frame),
+        ),
+        Kind::ValidateReq => validate_req(
+            &frame[HEAD..HEAD + 3],
+            destination(frame),
+            source(frame),
+        ),
+        Kind::ValidateCnf => validate_cnf(
+            &frame[HEAD..HEAD + 3],
             destination(frame),
             source(frame),
         ),

@@ -6,14 +6,17 @@ use crate::Message;
 use crate::NID_LIMIT;
 use crate::Nid;
 use crate::Nmk;
+use crate::RESULT_LIMIT;
 use crate::Random;
 use crate::group_values::put_groups;
+use crate::is_receiver;
 use crate::is_unicast;
 use crate::kinds::HEAD;
 use crate::kinds::Kind;
 use crate::kinds::filled_size;
 use crate::kinds::type_number;
 use crate::kinds::written_size;
+use crate::timer_limit;
 use octets::put_low_number;
 use octets::put_number;
 ghost use mathlib.Core.Path.{_≡_};
@@ -22,11 +25,11 @@ ghost use Prim.Native.Nat.{ℕ, _≤_};
 ghost use lib.ListN.{length};
 ghost use lib.Seq.{sets};
 ghost use Rattle.messages.specs.Layout.{encode};
-ghost use Rattle.messages.specs.Table.{slacParmReq, slacParmCnf, startAttenCharInd, attenCharInd, attenCharRsp, mnbcSoundInd, slacMatchCnf, attenProfileInd, typeOf, payloadSize, writtenSize, groupCount, matchFields, payload};
+ghost use Rattle.messages.specs.Table.{slacParmReq, slacParmCnf, startAttenCharInd, attenCharInd, attenCharRsp, mnbcSoundInd, validateReq, validateCnf, slacMatchCnf, attenProfileInd, typeOf, payloadSize, writtenSize, groupCount, matchFields, payload};
 ghost use Rattle.messages.specs.Table;
 ghost use Rattle.messages.specs.Writing.{payloadOctets, frame};
 ghost use Rattle.messages.specs.Answers.{messageOf};
-ghost use Rattle.messages.specs.Private.{kindOf, HeadOf, toAll, toOne};
+ghost use Rattle.messages.specs.Private.{kindOf, HeadOf, toAll, toOne, toEither};
 
 // What a frame's head says, whether its addresses are of the right kind (else 5), and whether the message's values fit (else 6).
 pub(crate) struct Head {
@@ -63,7 +66,20 @@ fn to_one(kind: Kind, dst: u64, src: u64, more: bool, limited: bool) -> Head
     }
 }
 
-// The head of a message. By the types of its values only NID can be too large.
+// The head of a message to one or to all, with what its values are tested for.
+fn to_either(kind: Kind, dst: u64, src: u64, limited: bool) -> Head
+    ensures { λ r. ⌜ r ≡ toEither kind dst src limited ⌝ }
+{
+    Head {
+        kind,
+        dst,
+        src,
+        addressed: is_unicast(src) & is_receiver(dst),
+        limited,
+    }
+}
+
+// The head of a message. By the types of its values only NID, a timer and a result can be too large.
 pub(crate) fn head_of(message: Message) -> Head
     ensures { λ r. ⌜ ((g : List ℕ) → length g ≡ groupCount → HeadOf r (messageOf message g)) ⌝ }
 {
@@ -92,6 +108,28 @@ pub(crate) fn head_of(message: Message) -> Head
             run: _,
             random: _,
         } => to_all(Kind::MnbcSoundInd, car.0),
+        Message::ValidateReq {
+            car,
+            receiver,
+            timer,
+        } => to_either(
+            Kind::ValidateReq,
+            receiver.0,
+            car.0,
+            (timer as u64) < timer_limit(receiver.0),
+        ),
+        Message::ValidateCnf {
+            station,
+            car,
+            toggles: _,
+            result,
+        } => to_one(
+            Kind::ValidateCnf,
+            car.0,
+            station.0,
+            true,
+            result < RESULT_LIMIT,
+        ),
         Message::SlacMatchReq {
             car,
             station,
@@ -209,6 +247,22 @@ fn put_atten_profile_ind(out: &mut [u8], car: u64, groups: GroupValues)
     put_groups(out, 8, groups);
 }
 
+fn put_validate_req(out: &mut [u8], timer: u8)
+    ensures { λ _. ⌜ ((d f : ℕ) → now (out .exit) ≡ sets (now (out .entry)) 0 (encode (payload validateReq d f) (timer, tt))) ⌝ }
+{
+    put_number(out, 0, 1, 0x00);
+    put_low_number(out, 1, 1, timer as u64);
+    put_number(out, 2, 1, 0x01);
+}
+
+fn put_validate_cnf(out: &mut [u8], toggles: u8, result: u8)
+    ensures { λ _. ⌜ ((d f : ℕ) → now (out .exit) ≡ sets (now (out .entry)) 0 (encode (payload validateCnf d f) (toggles, (result, tt)))) ⌝ }
+{
+    put_number(out, 0, 1, 0x00);
+    put_number(out, 1, 1, toggles as u64);
+    put_low_number(out, 2, 1, result as u64);
+}
+
 // Writes octets 0-65 of a match message.
 fn put_match(out: &mut [u8], mvflength: u64, car: u64, station: u64, run: u64)
     ensures { λ _. ⌜ now (out .exit) ≡ sets (now (out .entry)) 0 (encode (matchFields mvflength car station []) (run, tt)) ⌝ }
@@ -267,6 +321,17 @@ fn put_payload(out: &mut [u8], message: Message, groups: GroupValues)
             run,
             random,
         } => put_mnbc_sound_ind(&mut out[0..52], count, run.0, random),
+        Message::ValidateReq {
+            car: _,
+            receiver: _,
+            timer,
+        } => put_validate_req(&mut out[0..3], timer),
+        Message::ValidateCnf {
+            station: _,
+            car: _,
+            toggles,
+            result,
+        } => put_validate_cnf(&mut out[0..3], toggles, result),
         Message::SlacMatchReq { car, station, run } => put_match(
             &mut out[0..66],
             0x3E00,

@@ -40,6 +40,10 @@ pub low-none : (s : List ℕ) (at : ℕ) → lowValue s at 0 ≡ 0
 unfolding lowValue
 low-none s at = refl
 
+pub low-value-one : (s : List ℕ) (at : ℕ) → getD s at 0 ≡ lowValue s at 1
+unfolding lowValue
+low-value-one s at = omega arith
+
 -- the octet before: i octets are still to be read
 pub low-more : (s : List ℕ) (at i n : ℕ) → 0 < i → i ≤ n → lowValue s (at + i) (n - i) * 256 + getD s (at + (i - 1)) 0 ≡ lowValue s (at + (i - 1)) (n - (i - 1))
 unfolding lowValue

@@ -15,6 +15,9 @@ enum-known-message c = search needs
 enum-told-2 : tie.Need-enum-told-2
 enum-told-2 c = search needs
 
+enum-told-3 : tie.Need-enum-told-3
+enum-told-3 c = search needs
+
 returns : tie.Need-returns
 unfolding effectIn
 returns c = λ k t left g. effect-of (Sounding k t left) (c .before .before .args .message) _ g (c .enum-told .given .1)
@@ -27,6 +30,19 @@ returns-3 : tie.Need-returns-3
 unfolding effectIn
 returns-3 c = λ k t left g. effect-of (Sounding k t left) (c .before .before .args .message) _ g (c .enum-told2 .given .1)
 
+returns-4 : tie.Need-returns-4
+unfolding effectIn
+returns-4 c = λ k t left g. effect-of (Sounding k t left) (c .before .before .args .message) _ g (c .enum-told3 .given .1)
+
 pub in-sounding-spec : {M : Type 1} → statement M
 in-sounding-spec =
-    tie.close (tie.spec enum-told enum-known-message enum-told-2 returns returns-2 returns-3)
+    tie.close
+    (tie.spec
+    enum-told
+    enum-known-message
+    enum-told-2
+    enum-told-3
+    returns
+    returns-2
+    returns-3
+    returns-4)

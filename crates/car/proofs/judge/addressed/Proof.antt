@@ -23,6 +23,12 @@ enum-known-message-3 c = search needs
 for-us-requires-3 : tie.Need-for-us-requires-3
 for-us-requires-3 c κs = search needs
 
+enum-known-message-4 : tie.Need-enum-known-message-4
+enum-known-message-4 c = search needs
+
+for-us-requires-4 : tie.Need-for-us-requires-4
+for-us-requires-4 c κs = search needs
+
 returns : tie.Need-returns
 returns c = let a = c .before .before .before .before .args in addressed-as (a .config) _ _ (a .message) _ _ (c .for-us .ensures) (c .before .before .message .given .1) (λ g. refl)
 
@@ -33,7 +39,10 @@ returns-3 : tie.Need-returns-3
 returns-3 c = let a = c .before .before .before .before .args in addressed-as (a .config) _ _ (a .message) _ _ (c .for-us3 .ensures) (c .before .before .message3 .given .1) (λ g. refl)
 
 returns-4 : tie.Need-returns-4
-returns-4 c = λ g. only-stations (c .before .args .config) (c .before .args .message) g (c .match .keys4)
+returns-4 c = let a = c .before .before .before .before .args in addressed-as (a .config) _ _ (a .message) _ _ (c .for-us4 .ensures) (c .before .before .message4 .given .1) (λ g. refl)
+
+returns-5 : tie.Need-returns-5
+returns-5 c = λ g. only-stations (c .before .args .config) (c .before .args .message) g (c .match .keys5)
 
 pub addressed-spec : {M : Type 1} → statement M
 addressed-spec =
@@ -45,7 +54,10 @@ addressed-spec =
     for-us-requires-2
     enum-known-message-3
     for-us-requires-3
+    enum-known-message-4
+    for-us-requires-4
     returns
     returns-2
     returns-3
-    returns-4)
+    returns-4
+    returns-5)

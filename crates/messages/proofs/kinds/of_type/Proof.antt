@@ -3,7 +3,7 @@ use borrow.Author.Needs.{needs}
 use borrow.Author.Tests.{ne-eqb}
 use mathlib.Core.Path.{_∙_}
 use Rattle.messages.proofs.TableLaws.{by-type}
-use Rattle.messages.specs.Table.{typeOf, slacParmReq, slacParmCnf, startAttenCharInd, attenCharInd, attenCharRsp, mnbcSoundInd, slacMatchReq, slacMatchCnf, attenProfileInd}
+use Rattle.messages.specs.Table.{typeOf, slacParmReq, slacParmCnf, startAttenCharInd, attenCharInd, attenCharRsp, mnbcSoundInd, validateReq, validateCnf, slacMatchReq, slacMatchCnf, attenProfileInd}
 use Rattle.messages.proofs.kinds.of_type.Statement.{statement}
 use Rattle.messages.proofs.kinds.of_type.Tie as tie
 
@@ -34,6 +34,12 @@ of-size-requires-8 c κs = search needs
 of-size-requires-9 : tie.Need-of-size-requires-9
 of-size-requires-9 c κs = search needs
 
+of-size-requires-10 : tie.Need-of-size-requires-10
+of-size-requires-10 c κs = search needs
+
+of-size-requires-11 : tie.Need-of-size-requires-11
+of-size-requires-11 c κs = search needs
+
 returns : tie.Need-returns
 returns c = c .of-size .ensures ∙ by-type slacParmReq _ _ (c .before .match .keys1)
 
@@ -53,16 +59,22 @@ returns-6 : tie.Need-returns-6
 returns-6 c = c .of-size6 .ensures ∙ by-type mnbcSoundInd _ _ (c .before .match .keys6)
 
 returns-7 : tie.Need-returns-7
-returns-7 c = c .of-size7 .ensures ∙ by-type slacMatchReq _ _ (c .before .match .keys7)
+returns-7 c = c .of-size7 .ensures ∙ by-type validateReq _ _ (c .before .match .keys7)
 
 returns-8 : tie.Need-returns-8
-returns-8 c = c .of-size8 .ensures ∙ by-type slacMatchCnf _ _ (c .before .match .keys8)
+returns-8 c = c .of-size8 .ensures ∙ by-type validateCnf _ _ (c .before .match .keys8)
 
 returns-9 : tie.Need-returns-9
-returns-9 c = c .of-size9 .ensures ∙ by-type attenProfileInd _ _ (c .before .match .keys9)
+returns-9 c = c .of-size9 .ensures ∙ by-type slacMatchReq _ _ (c .before .match .keys9)
 
 returns-10 : tie.Need-returns-10
-returns-10 c = simp (ne-eqb _ (typeOf attenProfileInd) (c .match .rest .1), ne-eqb _ (typeOf slacMatchCnf) (c .match .rest .0 .1), ne-eqb _ (typeOf slacMatchReq) (c .match .rest .0 .0 .1), ne-eqb _ (typeOf mnbcSoundInd) (c .match .rest .0 .0 .0 .1), ne-eqb _ (typeOf attenCharRsp) (c .match .rest .0 .0 .0 .0 .1), ne-eqb _ (typeOf attenCharInd) (c .match .rest .0 .0 .0 .0 .0 .1), ne-eqb _ (typeOf startAttenCharInd) (c .match .rest .0 .0 .0 .0 .0 .0 .1), ne-eqb _ (typeOf slacParmCnf) (c .match .rest .0 .0 .0 .0 .0 .0 .0 .1), ne-eqb _ (typeOf slacParmReq) (c .match .rest .0 .0 .0 .0 .0 .0 .0 .0 .1))
+returns-10 c = c .of-size10 .ensures ∙ by-type slacMatchCnf _ _ (c .before .match .keys10)
+
+returns-11 : tie.Need-returns-11
+returns-11 c = c .of-size11 .ensures ∙ by-type attenProfileInd _ _ (c .before .match .keys11)
+
+returns-12 : tie.Need-returns-12
+returns-12 c = simp (ne-eqb _ (typeOf attenProfileInd) (c .match .rest .1), ne-eqb _ (typeOf slacMatchCnf) (c .match .rest .0 .1), ne-eqb _ (typeOf slacMatchReq) (c .match .rest .0 .0 .1), ne-eqb _ (typeOf validateCnf) (c .match .rest .0 .0 .0 .1), ne-eqb _ (typeOf validateReq) (c .match .rest .0 .0 .0 .0 .1), ne-eqb _ (typeOf mnbcSoundInd) (c .match .rest .0 .0 .0 .0 .0 .1), ne-eqb _ (typeOf attenCharRsp) (c .match .rest .0 .0 .0 .0 .0 .0 .1), ne-eqb _ (typeOf attenCharInd) (c .match .rest .0 .0 .0 .0 .0 .0 .0 .1), ne-eqb _ (typeOf startAttenCharInd) (c .match .rest .0 .0 .0 .0 .0 .0 .0 .0 .1), ne-eqb _ (typeOf slacParmCnf) (c .match .rest .0 .0 .0 .0 .0 .0 .0 .0 .0 .1), ne-eqb _ (typeOf slacParmReq) (c .match .rest .0 .0 .0 .0 .0 .0 .0 .0 .0 .0 .1))
 
 pub of-type-spec : {M : Type 1} → statement M
 of-type-spec =
@@ -77,6 +89,8 @@ of-type-spec =
     of-size-requires-7
     of-size-requires-8
     of-size-requires-9
+    of-size-requires-10
+    of-size-requires-11
     returns
     returns-2
     returns-3
@@ -86,4 +100,6 @@ of-type-spec =
     returns-7
     returns-8
     returns-9
-    returns-10)
+    returns-10
+    returns-11
+    returns-12)

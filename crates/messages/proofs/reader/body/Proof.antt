@@ -3,7 +3,7 @@ use native.Mathlib.Omega.{arith}
 use Rattle.messages.proofs.FrameLaws.{payload-room, payload-reads}
 use Rattle.messages.specs.Table.{payloadSize}
 use Rattle.messages.specs.Private.{kindOf}
-use Rattle.messages.specs.declared.kinds.Kind.the-variants.{SlacParmReq, SlacParmCnf, StartAttenCharInd, AttenCharInd, AttenCharRsp, MnbcSoundInd, SlacMatchReq, SlacMatchCnf, AttenProfileInd}
+use Rattle.messages.specs.declared.kinds.Kind.the-variants.{SlacParmReq, SlacParmCnf, StartAttenCharInd, AttenCharInd, AttenCharRsp, MnbcSoundInd, ValidateReq, ValidateCnf, SlacMatchReq, SlacMatchCnf, AttenProfileInd}
 use borrow.Author.Needs.{needs}
 use Rattle.messages.proofs.reader.body.Statement.{statement}
 use Rattle.messages.proofs.reader.body.Tie as tie
@@ -158,6 +158,54 @@ mnbc-sound-ind-requires c κs = search needs
 enum-told-7 : tie.Need-enum-told-7
 enum-told-7 c = search needs
 
+add-validate-req : tie.Need-add-validate-req
+add-validate-req c = search needs
+
+sub-validate-req : tie.Need-sub-validate-req
+sub-validate-req c = search needs
+
+part-validate-req-start : tie.Need-part-validate-req-start
+part-validate-req-start c = search needs
+
+part-validate-req-end : tie.Need-part-validate-req-end
+part-validate-req-end c = omega (arith, payload-room (c .before .before .before .args .frame .now) (c .before .before .before .args .kind) ValidateReq (c .enum-told7 .given .1) (c .before .before .before .pre))
+
+destination-requires-7 : tie.Need-destination-requires-7
+destination-requires-7 c κs = search needs
+
+source-requires-7 : tie.Need-source-requires-7
+source-requires-7 c κs = search needs
+
+validate-req-requires : tie.Need-validate-req-requires
+validate-req-requires c κs = search needs
+
+enum-told-8 : tie.Need-enum-told-8
+enum-told-8 c = search needs
+
+add-validate-cnf : tie.Need-add-validate-cnf
+add-validate-cnf c = search needs
+
+sub-validate-cnf : tie.Need-sub-validate-cnf
+sub-validate-cnf c = search needs
+
+part-validate-cnf-start : tie.Need-part-validate-cnf-start
+part-validate-cnf-start c = search needs
+
+part-validate-cnf-end : tie.Need-part-validate-cnf-end
+part-validate-cnf-end c = omega (arith, payload-room (c .before .before .before .args .frame .now) (c .before .before .before .args .kind) ValidateCnf (c .enum-told8 .given .1) (c .before .before .before .pre))
+
+destination-requires-8 : tie.Need-destination-requires-8
+destination-requires-8 c κs = search needs
+
+source-requires-8 : tie.Need-source-requires-8
+source-requires-8 c κs = search needs
+
+validate-cnf-requires : tie.Need-validate-cnf-requires
+validate-cnf-requires c κs = search needs
+
+enum-told-9 : tie.Need-enum-told-9
+enum-told-9 c = search needs
+
 add-slac-match-req : tie.Need-add-slac-match-req
 add-slac-match-req c = search needs
 
@@ -168,19 +216,19 @@ part-slac-match-req-start : tie.Need-part-slac-match-req-start
 part-slac-match-req-start c = search needs
 
 part-slac-match-req-end : tie.Need-part-slac-match-req-end
-part-slac-match-req-end c = omega (arith, payload-room (c .before .before .before .args .frame .now) (c .before .before .before .args .kind) SlacMatchReq (c .enum-told7 .given .1) (c .before .before .before .pre))
+part-slac-match-req-end c = omega (arith, payload-room (c .before .before .before .args .frame .now) (c .before .before .before .args .kind) SlacMatchReq (c .enum-told9 .given .1) (c .before .before .before .pre))
 
-destination-requires-7 : tie.Need-destination-requires-7
-destination-requires-7 c κs = search needs
+destination-requires-9 : tie.Need-destination-requires-9
+destination-requires-9 c κs = search needs
 
-source-requires-7 : tie.Need-source-requires-7
-source-requires-7 c κs = search needs
+source-requires-9 : tie.Need-source-requires-9
+source-requires-9 c κs = search needs
 
 slac-match-req-requires : tie.Need-slac-match-req-requires
 slac-match-req-requires c κs = search needs
 
-enum-told-8 : tie.Need-enum-told-8
-enum-told-8 c = search needs
+enum-told-10 : tie.Need-enum-told-10
+enum-told-10 c = search needs
 
 add-slac-match-cnf : tie.Need-add-slac-match-cnf
 add-slac-match-cnf c = search needs
@@ -192,19 +240,19 @@ part-slac-match-cnf-start : tie.Need-part-slac-match-cnf-start
 part-slac-match-cnf-start c = search needs
 
 part-slac-match-cnf-end : tie.Need-part-slac-match-cnf-end
-part-slac-match-cnf-end c = omega (arith, payload-room (c .before .before .before .args .frame .now) (c .before .before .before .args .kind) SlacMatchCnf (c .enum-told8 .given .1) (c .before .before .before .pre))
+part-slac-match-cnf-end c = omega (arith, payload-room (c .before .before .before .args .frame .now) (c .before .before .before .args .kind) SlacMatchCnf (c .enum-told10 .given .1) (c .before .before .before .pre))
 
-destination-requires-8 : tie.Need-destination-requires-8
-destination-requires-8 c κs = search needs
+destination-requires-10 : tie.Need-destination-requires-10
+destination-requires-10 c κs = search needs
 
-source-requires-8 : tie.Need-source-requires-8
-source-requires-8 c κs = search needs
+source-requires-10 : tie.Need-source-requires-10
+source-requires-10 c κs = search needs
 
 slac-match-cnf-requires : tie.Need-slac-match-cnf-requires
 slac-match-cnf-requires c κs = search needs
 
-enum-told-9 : tie.Need-enum-told-9
-enum-told-9 c = search needs
+enum-told-11 : tie.Need-enum-told-11
+enum-told-11 c = search needs
 
 add-atten-profile-ind : tie.Need-add-atten-profile-ind
 add-atten-profile-ind c = search needs
@@ -219,13 +267,13 @@ part-atten-profile-ind-start : tie.Need-part-atten-profile-ind-start
 part-atten-profile-ind-start c = search needs
 
 part-atten-profile-ind-end : tie.Need-part-atten-profile-ind-end
-part-atten-profile-ind-end c = omega (arith, payload-room (c .before .before .before .args .frame .now) (c .before .before .before .args .kind) AttenProfileInd (c .enum-told9 .given .1) (c .before .before .before .pre))
+part-atten-profile-ind-end c = omega (arith, payload-room (c .before .before .before .args .frame .now) (c .before .before .before .args .kind) AttenProfileInd (c .enum-told11 .given .1) (c .before .before .before .pre))
 
-destination-requires-9 : tie.Need-destination-requires-9
-destination-requires-9 c κs = search needs
+destination-requires-11 : tie.Need-destination-requires-11
+destination-requires-11 c κs = search needs
 
-source-requires-9 : tie.Need-source-requires-9
-source-requires-9 c κs = search needs
+source-requires-11 : tie.Need-source-requires-11
+source-requires-11 c κs = search needs
 
 atten-profile-ind-requires : tie.Need-atten-profile-ind-requires
 atten-profile-ind-requires c κs = search needs
@@ -249,13 +297,19 @@ returns-6 : tie.Need-returns-6
 returns-6 c = payload-reads (c .before .before .before .before .before .before .before .args .frame .now) (c .mnbc-sound-ind .result) (c .before .before .destination6 .result) (c .before .source6 .result) (payloadSize (kindOf MnbcSoundInd)) (c .before .before .before .before .before .before .before .args .kind) MnbcSoundInd (c .mnbc-sound-ind .ensures) (omega arith) (c .before .before .destination6 .ensures) (c .before .source6 .ensures) (c .before .before .before .before .enum-told6 .given .1)
 
 returns-7 : tie.Need-returns-7
-returns-7 c = payload-reads (c .before .before .before .before .before .before .before .args .frame .now) (c .slac-match-req .result) (c .before .before .destination7 .result) (c .before .source7 .result) (payloadSize (kindOf SlacMatchReq)) (c .before .before .before .before .before .before .before .args .kind) SlacMatchReq (c .slac-match-req .ensures) (omega arith) (c .before .before .destination7 .ensures) (c .before .source7 .ensures) (c .before .before .before .before .enum-told7 .given .1)
+returns-7 c = payload-reads (c .before .before .before .before .before .before .before .args .frame .now) (c .validate-req .result) (c .before .before .destination7 .result) (c .before .source7 .result) (payloadSize (kindOf ValidateReq)) (c .before .before .before .before .before .before .before .args .kind) ValidateReq (c .validate-req .ensures) (omega arith) (c .before .before .destination7 .ensures) (c .before .source7 .ensures) (c .before .before .before .before .enum-told7 .given .1)
 
 returns-8 : tie.Need-returns-8
-returns-8 c = payload-reads (c .before .before .before .before .before .before .before .args .frame .now) (c .slac-match-cnf .result) (c .before .before .destination8 .result) (c .before .source8 .result) (payloadSize (kindOf SlacMatchCnf)) (c .before .before .before .before .before .before .before .args .kind) SlacMatchCnf (c .slac-match-cnf .ensures) (omega arith) (c .before .before .destination8 .ensures) (c .before .source8 .ensures) (c .before .before .before .before .enum-told8 .given .1)
+returns-8 c = payload-reads (c .before .before .before .before .before .before .before .args .frame .now) (c .validate-cnf .result) (c .before .before .destination8 .result) (c .before .source8 .result) (payloadSize (kindOf ValidateCnf)) (c .before .before .before .before .before .before .before .args .kind) ValidateCnf (c .validate-cnf .ensures) (omega arith) (c .before .before .destination8 .ensures) (c .before .source8 .ensures) (c .before .before .before .before .enum-told8 .given .1)
 
 returns-9 : tie.Need-returns-9
-returns-9 c = payload-reads (c .before .before .before .before .before .before .before .args .frame .now) (c .atten-profile-ind .result) (c .before .before .destination9 .result) (c .before .source9 .result) (payloadSize (kindOf AttenProfileInd)) (c .before .before .before .before .before .before .before .args .kind) AttenProfileInd (c .atten-profile-ind .ensures) (omega arith) (c .before .before .destination9 .ensures) (c .before .source9 .ensures) (c .before .before .before .before .enum-told9 .given .1)
+returns-9 c = payload-reads (c .before .before .before .before .before .before .before .args .frame .now) (c .slac-match-req .result) (c .before .before .destination9 .result) (c .before .source9 .result) (payloadSize (kindOf SlacMatchReq)) (c .before .before .before .before .before .before .before .args .kind) SlacMatchReq (c .slac-match-req .ensures) (omega arith) (c .before .before .destination9 .ensures) (c .before .source9 .ensures) (c .before .before .before .before .enum-told9 .given .1)
+
+returns-10 : tie.Need-returns-10
+returns-10 c = payload-reads (c .before .before .before .before .before .before .before .args .frame .now) (c .slac-match-cnf .result) (c .before .before .destination10 .result) (c .before .source10 .result) (payloadSize (kindOf SlacMatchCnf)) (c .before .before .before .before .before .before .before .args .kind) SlacMatchCnf (c .slac-match-cnf .ensures) (omega arith) (c .before .before .destination10 .ensures) (c .before .source10 .ensures) (c .before .before .before .before .enum-told10 .given .1)
+
+returns-11 : tie.Need-returns-11
+returns-11 c = payload-reads (c .before .before .before .before .before .before .before .args .frame .now) (c .atten-profile-ind .result) (c .before .before .destination11 .result) (c .before .source11 .result) (payloadSize (kindOf AttenProfileInd)) (c .before .before .before .before .before .before .before .args .kind) AttenProfileInd (c .atten-profile-ind .ensures) (omega arith) (c .before .before .destination11 .ensures) (c .before .source11 .ensures) (c .before .before .before .before .enum-told11 .given .1)
 
 pub body-spec : {M : Type 1} → statement M
 body-spec =
@@ -311,29 +365,45 @@ body-spec =
     source-requires-6
     mnbc-sound-ind-requires
     enum-told-7
+    add-validate-req
+    sub-validate-req
+    part-validate-req-start
+    part-validate-req-end
+    destination-requires-7
+    source-requires-7
+    validate-req-requires
+    enum-told-8
+    add-validate-cnf
+    sub-validate-cnf
+    part-validate-cnf-start
+    part-validate-cnf-end
+    destination-requires-8
+    source-requires-8
+    validate-cnf-requires
+    enum-told-9
     add-slac-match-req
     sub-slac-match-req
     part-slac-match-req-start
     part-slac-match-req-end
-    destination-requires-7
-    source-requires-7
+    destination-requires-9
+    source-requires-9
     slac-match-req-requires
-    enum-told-8
+    enum-told-10
     add-slac-match-cnf
     sub-slac-match-cnf
     part-slac-match-cnf-start
     part-slac-match-cnf-end
-    destination-requires-8
-    source-requires-8
+    destination-requires-10
+    source-requires-10
     slac-match-cnf-requires
-    enum-told-9
+    enum-told-11
     add-atten-profile-ind
     add-atten-profile-ind-2
     sub-atten-profile-ind
     part-atten-profile-ind-start
     part-atten-profile-ind-end
-    destination-requires-9
-    source-requires-9
+    destination-requires-11
+    source-requires-11
     atten-profile-ind-requires
     returns
     returns-2
@@ -343,4 +413,6 @@ body-spec =
     returns-6
     returns-7
     returns-8
-    returns-9)
+    returns-9
+    returns-10
+    returns-11)

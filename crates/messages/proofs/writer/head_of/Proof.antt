@@ -1,10 +1,12 @@
 -- By the message.
+use Prim.Native.Nat.{ℕ}
 use borrow.Author.Needs.{needs}
+use lib.Dec.{ltb}
 use mathlib.Core.Bool.{Bool, true}
 use mathlib.Core.Path.{ap, _∙_}
 use Rattle.messages.proofs.WriteLaws.{headed}
-use Rattle.messages.specs.Private.{toOne}
-use Rattle.messages.specs.declared.kinds.Kind.the-variants.{AttenProfileInd}
+use Rattle.messages.specs.Private.{toOne, toEither}
+use Rattle.messages.specs.declared.kinds.Kind.the-variants.{ValidateReq, AttenProfileInd}
 use Rattle.messages.proofs.writer.head_of.Statement.{statement}
 use Rattle.messages.proofs.writer.head_of.Tie as tie
 
@@ -47,23 +49,41 @@ to-all-requires-3 c κs = search needs
 enum-known-message-7 : tie.Need-enum-known-message-7
 enum-known-message-7 c = search needs
 
-to-one-requires-4 : tie.Need-to-one-requires-4
-to-one-requires-4 c κs = search needs
+cast-to-either : tie.Need-cast-to-either
+cast-to-either c = search needs
+
+timer-limit-requires : tie.Need-timer-limit-requires
+timer-limit-requires c κs = search needs
+
+to-either-requires : tie.Need-to-either-requires
+to-either-requires c κs = search needs
 
 enum-known-message-8 : tie.Need-enum-known-message-8
 enum-known-message-8 c = search needs
 
-to-one-requires-5 : tie.Need-to-one-requires-5
-to-one-requires-5 c κs = search needs
+to-one-requires-4 : tie.Need-to-one-requires-4
+to-one-requires-4 c κs = search needs
 
 enum-known-message-9 : tie.Need-enum-known-message-9
 enum-known-message-9 c = search needs
 
-is-unicast-requires : tie.Need-is-unicast-requires
-is-unicast-requires c κs = search needs
+to-one-requires-5 : tie.Need-to-one-requires-5
+to-one-requires-5 c κs = search needs
+
+enum-known-message-10 : tie.Need-enum-known-message-10
+enum-known-message-10 c = search needs
 
 to-one-requires-6 : tie.Need-to-one-requires-6
 to-one-requires-6 c κs = search needs
+
+enum-known-message-11 : tie.Need-enum-known-message-11
+enum-known-message-11 c = search needs
+
+is-unicast-requires : tie.Need-is-unicast-requires
+is-unicast-requires c κs = search needs
+
+to-one-requires-7 : tie.Need-to-one-requires-7
+to-one-requires-7 c κs = search needs
 
 returns : tie.Need-returns
 returns c = λ g l. headed g l _ _ _ (c .before .before .message .given .1) (search needs) (c .to-all .ensures)
@@ -84,13 +104,19 @@ returns-6 : tie.Need-returns-6
 returns-6 c = λ g l. headed g l _ _ _ (c .before .before .message6 .given .1) (search needs) (c .to-all3 .ensures)
 
 returns-7 : tie.Need-returns-7
-returns-7 c = λ g l. headed g l _ _ _ (c .before .before .message7 .given .1) (search needs) (c .to-one4 .ensures)
+returns-7 c = λ g l. headed g l _ _ _ (c .before .before .before .message7 .given .1) (search needs) (c .to-either .ensures ∙ ap (λ (n : ℕ). toEither ValidateReq (c .before .before .before .message7 .given .0 .1 .1 .0 .0) (c .before .before .before .message7 .given .0 .0 .0) (ltb (c .before .before .before .message7 .given .0 .1 .0) n)) (c .before .timer-limit .ensures))
 
 returns-8 : tie.Need-returns-8
-returns-8 c = λ g l. headed g l _ _ _ (c .before .before .before .message8 .given .1) (search needs) (c .to-one5 .ensures)
+returns-8 c = λ g l. headed g l _ _ _ (c .before .before .message8 .given .1) (search needs) (c .to-one4 .ensures)
 
 returns-9 : tie.Need-returns-9
-returns-9 c = λ g l. headed g l _ _ _ (c .before .before .before .message9 .given .1) tt (c .to-one6 .ensures ∙ ap (λ (b : Bool). toOne AttenProfileInd (c .before .before .before .message9 .given .0 .1 .0 .0) (c .before .before .before .message9 .given .0 .0 .0) b true) (c .before .is-unicast .ensures))
+returns-9 c = λ g l. headed g l _ _ _ (c .before .before .message9 .given .1) (search needs) (c .to-one5 .ensures)
+
+returns-10 : tie.Need-returns-10
+returns-10 c = λ g l. headed g l _ _ _ (c .before .before .before .message10 .given .1) (search needs) (c .to-one6 .ensures)
+
+returns-11 : tie.Need-returns-11
+returns-11 c = λ g l. headed g l _ _ _ (c .before .before .before .message11 .given .1) tt (c .to-one7 .ensures ∙ ap (λ (b : Bool). toOne AttenProfileInd (c .before .before .before .message11 .given .0 .1 .0 .0) (c .before .before .before .message11 .given .0 .0 .0) b true) (c .before .is-unicast .ensures))
 
 pub head-of-spec : {M : Type 1} → statement M
 head-of-spec =
@@ -109,12 +135,18 @@ head-of-spec =
     enum-known-message-6
     to-all-requires-3
     enum-known-message-7
-    to-one-requires-4
+    cast-to-either
+    timer-limit-requires
+    to-either-requires
     enum-known-message-8
-    to-one-requires-5
+    to-one-requires-4
     enum-known-message-9
-    is-unicast-requires
+    to-one-requires-5
+    enum-known-message-10
     to-one-requires-6
+    enum-known-message-11
+    is-unicast-requires
+    to-one-requires-7
     returns
     returns-2
     returns-3
@@ -123,4 +155,6 @@ head-of-spec =
     returns-6
     returns-7
     returns-8
-    returns-9)
+    returns-9
+    returns-10
+    returns-11)

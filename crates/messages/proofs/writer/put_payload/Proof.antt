@@ -107,6 +107,36 @@ put-mnbc-sound-ind-requires c κs = search needs
 enum-known-message-7 : tie.Need-enum-known-message-7
 enum-known-message-7 c = search needs
 
+sub-put-validate-req : tie.Need-sub-put-validate-req
+sub-put-validate-req c = search needs
+
+part-put-validate-req-start : tie.Need-part-put-validate-req-start
+part-put-validate-req-start c = search needs
+
+part-put-validate-req-end : tie.Need-part-put-validate-req-end
+part-put-validate-req-end c = payload-room (c .before .before .before .before .args .groups) (c .before .before .before .before .args .out .now) (whole (c .before .before .before .before)) (c .before .before .before .before .args .message) _ (c .before .message7 .given .1) (c .before .before .before .before .pre)
+
+put-validate-req-requires : tie.Need-put-validate-req-requires
+put-validate-req-requires c κs = search needs
+
+enum-known-message-8 : tie.Need-enum-known-message-8
+enum-known-message-8 c = search needs
+
+sub-put-validate-cnf : tie.Need-sub-put-validate-cnf
+sub-put-validate-cnf c = search needs
+
+part-put-validate-cnf-start : tie.Need-part-put-validate-cnf-start
+part-put-validate-cnf-start c = search needs
+
+part-put-validate-cnf-end : tie.Need-part-put-validate-cnf-end
+part-put-validate-cnf-end c = payload-room (c .before .before .before .before .args .groups) (c .before .before .before .before .args .out .now) (whole (c .before .before .before .before)) (c .before .before .before .before .args .message) _ (c .before .message8 .given .1) (c .before .before .before .before .pre)
+
+put-validate-cnf-requires : tie.Need-put-validate-cnf-requires
+put-validate-cnf-requires c κs = search needs
+
+enum-known-message-9 : tie.Need-enum-known-message-9
+enum-known-message-9 c = search needs
+
 sub-put-match : tie.Need-sub-put-match
 sub-put-match c = search needs
 
@@ -114,13 +144,13 @@ part-put-match-start : tie.Need-part-put-match-start
 part-put-match-start c = search needs
 
 part-put-match-end : tie.Need-part-put-match-end
-part-put-match-end c = payload-room (c .before .before .before .before .args .groups) (c .before .before .before .before .args .out .now) (whole (c .before .before .before .before)) (c .before .before .before .before .args .message) _ (c .before .message7 .given .1) (c .before .before .before .before .pre)
+part-put-match-end c = payload-room (c .before .before .before .before .args .groups) (c .before .before .before .before .args .out .now) (whole (c .before .before .before .before)) (c .before .before .before .before .args .message) _ (c .before .message9 .given .1) (c .before .before .before .before .pre)
 
 put-match-requires : tie.Need-put-match-requires
 put-match-requires c κs = search needs
 
-enum-known-message-8 : tie.Need-enum-known-message-8
-enum-known-message-8 c = search needs
+enum-known-message-10 : tie.Need-enum-known-message-10
+enum-known-message-10 c = search needs
 
 sub-put-slac-match-cnf : tie.Need-sub-put-slac-match-cnf
 sub-put-slac-match-cnf c = search needs
@@ -129,13 +159,13 @@ part-put-slac-match-cnf-start : tie.Need-part-put-slac-match-cnf-start
 part-put-slac-match-cnf-start c = search needs
 
 part-put-slac-match-cnf-end : tie.Need-part-put-slac-match-cnf-end
-part-put-slac-match-cnf-end c = payload-room (c .before .before .before .before .args .groups) (c .before .before .before .before .args .out .now) (whole (c .before .before .before .before)) (c .before .before .before .before .args .message) _ (c .before .message8 .given .1) (c .before .before .before .before .pre)
+part-put-slac-match-cnf-end c = payload-room (c .before .before .before .before .args .groups) (c .before .before .before .before .args .out .now) (whole (c .before .before .before .before)) (c .before .before .before .before .args .message) _ (c .before .message10 .given .1) (c .before .before .before .before .pre)
 
 put-slac-match-cnf-requires : tie.Need-put-slac-match-cnf-requires
 put-slac-match-cnf-requires c κs = search needs
 
-enum-known-message-9 : tie.Need-enum-known-message-9
-enum-known-message-9 c = search needs
+enum-known-message-11 : tie.Need-enum-known-message-11
+enum-known-message-11 c = search needs
 
 add-put-atten-profile-ind : tie.Need-add-put-atten-profile-ind
 add-put-atten-profile-ind c = search needs
@@ -147,7 +177,7 @@ part-put-atten-profile-ind-start : tie.Need-part-put-atten-profile-ind-start
 part-put-atten-profile-ind-start c = search needs
 
 part-put-atten-profile-ind-end : tie.Need-part-put-atten-profile-ind-end
-part-put-atten-profile-ind-end c = payload-room (c .before .before .before .before .args .groups) (c .before .before .before .before .args .out .now) (whole (c .before .before .before .before)) (c .before .before .before .before .args .message) _ (c .before .message9 .given .1) (c .before .before .before .before .pre)
+part-put-atten-profile-ind-end c = payload-room (c .before .before .before .before .args .groups) (c .before .before .before .before .args .out .now) (whole (c .before .before .before .before)) (c .before .before .before .before .args .message) _ (c .before .message11 .given .1) (c .before .before .before .before .pre)
 
 put-atten-profile-ind-requires : tie.Need-put-atten-profile-ind-requires
 put-atten-profile-ind-requires c κs = search needs
@@ -192,19 +222,31 @@ same-length-7 : tie.Need-same-length-7
 same-length-7 c = search needs
 
 returns-7 : tie.Need-returns-7
-returns-7 c = payload-put (c .before .before .before .before .before .before .before .before .args .groups) (c .before .before .before .before .before .before .before .before .args .out .now) (whole (c .before .before .before .before .before .before .before .before)) (c .before .before .before .before .before .before .before .before .args .message) _ (c .before .before .before .before .before .message7 .given .1) (c .before .before .before .before .before .before .before .before .pre) (c .before .before .put-match .last .0) (c .before .before .put-match .ensures)
+returns-7 c = payload-put (c .before .before .before .before .before .before .before .before .args .groups) (c .before .before .before .before .before .before .before .before .args .out .now) (whole (c .before .before .before .before .before .before .before .before)) (c .before .before .before .before .before .before .before .before .args .message) _ (c .before .before .before .before .before .message7 .given .1) (c .before .before .before .before .before .before .before .before .pre) (c .before .before .put-validate-req .last .0) (c .before .before .put-validate-req .ensures (c .before .before .before .before .before .message7 .given .0 .1 .1 .0 .0) (c .before .before .before .before .before .message7 .given .0 .0 .0))
 
 same-length-8 : tie.Need-same-length-8
 same-length-8 c = search needs
 
 returns-8 : tie.Need-returns-8
-returns-8 c = payload-put (c .before .before .before .before .before .before .before .before .args .groups) (c .before .before .before .before .before .before .before .before .args .out .now) (whole (c .before .before .before .before .before .before .before .before)) (c .before .before .before .before .before .before .before .before .args .message) _ (c .before .before .before .before .before .message8 .given .1) (c .before .before .before .before .before .before .before .before .pre) (c .before .before .put-slac-match-cnf .last .0) (c .before .before .put-slac-match-cnf .ensures)
+returns-8 c = payload-put (c .before .before .before .before .before .before .before .before .args .groups) (c .before .before .before .before .before .before .before .before .args .out .now) (whole (c .before .before .before .before .before .before .before .before)) (c .before .before .before .before .before .before .before .before .args .message) _ (c .before .before .before .before .before .message8 .given .1) (c .before .before .before .before .before .before .before .before .pre) (c .before .before .put-validate-cnf .last .0) (c .before .before .put-validate-cnf .ensures (c .before .before .before .before .before .message8 .given .0 .1 .1 .0 .0) (c .before .before .before .before .before .message8 .given .0 .0 .0))
 
 same-length-9 : tie.Need-same-length-9
 same-length-9 c = search needs
 
 returns-9 : tie.Need-returns-9
-returns-9 c = payload-put (c .before .before .before .before .before .before .before .before .args .groups) (c .before .before .before .before .before .before .before .before .args .out .now) (whole (c .before .before .before .before .before .before .before .before)) (c .before .before .before .before .before .before .before .before .args .message) _ (c .before .before .before .before .before .message9 .given .1) (c .before .before .before .before .before .before .before .before .pre) (c .before .before .put-atten-profile-ind .last .0) (c .before .before .put-atten-profile-ind .ensures (c .before .before .before .before .before .message9 .given .0 .1 .0 .0) (c .before .before .before .before .before .message9 .given .0 .0 .0))
+returns-9 c = payload-put (c .before .before .before .before .before .before .before .before .args .groups) (c .before .before .before .before .before .before .before .before .args .out .now) (whole (c .before .before .before .before .before .before .before .before)) (c .before .before .before .before .before .before .before .before .args .message) _ (c .before .before .before .before .before .message9 .given .1) (c .before .before .before .before .before .before .before .before .pre) (c .before .before .put-match .last .0) (c .before .before .put-match .ensures)
+
+same-length-10 : tie.Need-same-length-10
+same-length-10 c = search needs
+
+returns-10 : tie.Need-returns-10
+returns-10 c = payload-put (c .before .before .before .before .before .before .before .before .args .groups) (c .before .before .before .before .before .before .before .before .args .out .now) (whole (c .before .before .before .before .before .before .before .before)) (c .before .before .before .before .before .before .before .before .args .message) _ (c .before .before .before .before .before .message10 .given .1) (c .before .before .before .before .before .before .before .before .pre) (c .before .before .put-slac-match-cnf .last .0) (c .before .before .put-slac-match-cnf .ensures)
+
+same-length-11 : tie.Need-same-length-11
+same-length-11 c = search needs
+
+returns-11 : tie.Need-returns-11
+returns-11 c = payload-put (c .before .before .before .before .before .before .before .before .args .groups) (c .before .before .before .before .before .before .before .before .args .out .now) (whole (c .before .before .before .before .before .before .before .before)) (c .before .before .before .before .before .before .before .before .args .message) _ (c .before .before .before .before .before .message11 .given .1) (c .before .before .before .before .before .before .before .before .pre) (c .before .before .put-atten-profile-ind .last .0) (c .before .before .put-atten-profile-ind .ensures (c .before .before .before .before .before .message11 .given .0 .1 .0 .0) (c .before .before .before .before .before .message11 .given .0 .0 .0))
 
 pub put-payload-spec : {M : Type 1} → statement M
 put-payload-spec =
@@ -242,16 +284,26 @@ put-payload-spec =
     part-put-mnbc-sound-ind-end
     put-mnbc-sound-ind-requires
     enum-known-message-7
+    sub-put-validate-req
+    part-put-validate-req-start
+    part-put-validate-req-end
+    put-validate-req-requires
+    enum-known-message-8
+    sub-put-validate-cnf
+    part-put-validate-cnf-start
+    part-put-validate-cnf-end
+    put-validate-cnf-requires
+    enum-known-message-9
     sub-put-match
     part-put-match-start
     part-put-match-end
     put-match-requires
-    enum-known-message-8
+    enum-known-message-10
     sub-put-slac-match-cnf
     part-put-slac-match-cnf-start
     part-put-slac-match-cnf-end
     put-slac-match-cnf-requires
-    enum-known-message-9
+    enum-known-message-11
     add-put-atten-profile-ind
     sub-put-atten-profile-ind
     part-put-atten-profile-ind-start
@@ -274,4 +326,8 @@ put-payload-spec =
     same-length-8
     returns-8
     same-length-9
-    returns-9)
+    returns-9
+    same-length-10
+    returns-10
+    same-length-11
+    returns-11)
