@@ -1,7 +1,7 @@
 -- Laws of lists: the elements that pass a test, what holds of every element, another order, and lists back to back.
 use Prim.Native.Nat.{ℕ, zero, suc, _+_, _<_}
 use mathlib.Core.Path.{_≡_, refl, sym, _∙_, ap, subst}
-use mathlib.Core.Bool.{Bool, true, false, not}
+use mathlib.Core.Bool.{Bool, true, false, not, cond}
 use mathlib.Core.List.{List, [], _∷_, _++_, append-assoc, map}
 use native.Mathlib.Omega.{arith}
 use native.Mathlib.Numerals.{add-one}
@@ -73,6 +73,14 @@ module _ {A : Type 0} (b : A → Bool) where
       ))
       (λ g. rw g (subst (λ l. Permuted (only b xs) l) (sym (ap (only b) e ∙ only-skip p q x g)) (only-permuted xs (p ++ q) r)))
 
+  -- an earlier test that refuses none of those that pass makes no difference
+  pub only-within : (a : A → Bool) → ((x : A) → a x ≡ false → b x ≡ false) → (xs : List A) → only b (only a xs) ≡ only b xs
+  unfolding only
+  only-within a h [] = refl
+  only-within a h (x ∷ xs) = split (a x)
+      (λ g. rw g (ap (λ q. cond (b x) (x ∷ q) q) (only-within a h xs)))
+      (λ g. rw (g, h x g) (only-within a h xs))
+
   -- where an element that passes stands in the whole list
   pub record Found (x : A) (f k fs : List A) : Type 0 where
     pub front : List A
@@ -113,6 +121,20 @@ module _ {A : Type 0} where
   pub permuted-block : (xs ys p q : List A) → Permuted ys (p ++ q) → Permuted (xs ++ ys) (p ++ (xs ++ q))
   permuted-block [] ys p q h = h
   permuted-block (x ∷ xs) ys p q h = (p, (xs ++ q, (refl, permuted-block xs ys p q h)))
+
+  -- two lists back to back, each in another order
+  pub permuted-append : (xs ys us vs : List A) → Permuted xs ys → Permuted us vs → Permuted (xs ++ us) (ys ++ vs)
+  permuted-append [] ys us vs h k = rw h k
+  permuted-append (x ∷ xs) ys us vs (p, (q, (e, r))) k = (
+    p,
+    (
+      q ++ vs,
+      (
+        ap (λ l. l ++ vs) e ∙ append-assoc p (x ∷ q) vs,
+        subst (λ l. Permuted (xs ++ us) l) (append-assoc p q vs) (permuted-append xs (p ++ q) us vs r k),
+      ),
+    ),
+  )
 
 module _ {A : Type 0} (P : A → Type 0) where
   pub all-map : (f : A → A) → ((x : A) → P x → P (f x)) → (xs : List A) → All P xs → All P (map f xs)

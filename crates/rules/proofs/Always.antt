@@ -1,4 +1,4 @@
--- What the three changes of the record list keep, every call keeps.
+-- What the four changes of the record list keep, every call keeps.
 use Prim.Native.Nat.{ℕ, zero, suc, _-_}
 use mathlib.Core.Path.{_≡_}
 use mathlib.Core.Bool.{Bool, true, false, _&&_}
@@ -13,14 +13,16 @@ use Rattle.rules.specs.declared.Record.{Record}
 use Rattle.rules.specs.declared.State.{State}
 use Rattle.rules.specs.declared.State.the-variants.{Unmatched, Matching, Joining, Matched}
 use Rattle.rules.specs.declared.Station.{Station}
+use Rattle.rules.specs.declared.Turn.{Turn}
 use Rattle.rules.specs.Calls.{Call, frame, tick, pilot, terminate, linkUp}
 use Rattle.ends.specs.Outcomes.{andThen, next}
 use Rattle.rules.specs.Stations.{Shared, Inner, Done}
 use Rattle.rules.specs.Records.{sameCar, sameRun, mine, freePlaces, noneHeld, freed}
 use Rattle.rules.specs.Received.{RecordMessage, Request, forRecord, matchReq, Received, received}
-use Rattle.rules.specs.Events.{plugged, ended, pilotDone, linkRule}
+use Rattle.rules.specs.Validation.{firstResult, turn, toggledRecord}
+use Rattle.rules.specs.Events.{plugged, isB, ended, pilotDone, linkRule}
 use Rattle.rules.specs.Frames.{Change, changeRule, matchRule, put, changed, confirmed, stateRule, admitted, frameRule}
-use Rattle.rules.specs.Ticks.{tickElapsed, tickRecord, allReports, admissionDone, joiningDone, tickDone}
+use Rattle.rules.specs.Ticks.{tickElapsed, tickRecord, allFrames, admissionDone, joiningDone, tickDone}
 use Rattle.rules.specs.Rules.{rule, step, after}
 use Rattle.ends.proofs.Logic.{OnYes, on-check}
 use Rattle.rules.proofs.ReceivedLaws.{ReadAs, read-as}
@@ -34,9 +36,10 @@ Meets F o terminate = Unit {0}
 Meets F o linkUp = Unit {0}
 
 module _ (P : List Record → Type 0) (F : Request → Type 0)
-    (puts : (c : CarAddress) → isUnicast (c .0) ≡ true → (m : RecordMessage) → F (forRecord m) → (a : ℕ) (rs : List Record) → P rs
-    → OnYes (λ (x : Change). P (put c (x .place) (x .kept) rs)) (changeRule c m a (freePlaces rs) (mine c rs)))
-    (ticks : (e : ℕ) (rs : List Record) → P rs → P (map (tickRecord e) rs))
+    (puts : (c : CarAddress) → isUnicast (c .0) ≡ true → (m : RecordMessage) → F (forRecord m) → (a : ℕ) (exempt : Bool) (rs : List Record) → P rs
+    → OnYes (λ (x : Change). P (put c (x .place) (x .kept) rs)) (changeRule c m a (freePlaces rs) (firstResult exempt rs) (mine c rs)))
+    (ticks : (b : Bool) (e : ℕ) (rs : List Record) → P rs → P (map (tickRecord b e) rs))
+    (turns : (w : Turn) (rs : List Record) → P rs → P (map (toggledRecord w) rs))
     (frees : (rs : List Record) → P rs → P (map freed rs)) where
   abbrev Keeps : Done → Type 0
   Keeps d = P (d .after .records)
@@ -54,7 +57,7 @@ module _ (P : List Record → Type 0) (F : Request → Type 0)
   of-state : (o : Configuration) (st : State) (rs : List Record) (c : CarAddress) (m : Request) → isUnicast (c .0) ≡ true → F m → P rs → OnYes Keeps (stateRule o st rs c m)
   unfolding stateRule
   of-state o Unmatched rs c m u f h = tt
-  of-state o (Matching a) rs c (forRecord m) u f h = of-change o _ rs c (changeRule c m a (freePlaces rs) (mine c rs)) (puts c u m f a rs h)
+  of-state o (Matching a) rs c (forRecord m) u f h = of-change o _ rs c (changeRule c m a (freePlaces rs) (firstResult (o .exempt) rs) (mine c rs)) (puts c u m f a (o .exempt) rs h)
   of-state o (Matching a) rs c (matchReq run) u f h = of-match o _ rs c run (matchRule run (mine c rs)) h
   of-state o (Joining l d k) rs c (forRecord m) u f h = tt
   of-state o (Joining l d k) rs c (matchReq run) u f h = on-check Keeps (sameCar c d && sameRun run k) 11 _ (λ e. h)
@@ -76,23 +79,23 @@ module _ (P : List Record → Type 0) (F : Request → Type 0)
   of-joining true l c run rs h = h
   of-joining false l c run rs h = h
 
-  of-tick : (o : Configuration) (e : ℕ) (st : State) (rs : List Record) → P rs → Keeps (tickDone o e st rs)
+  of-tick : (o : Configuration) (b : Bool) (e : ℕ) (st : State) (rs : List Record) → P rs → Keeps (tickDone o b e st rs)
   unfolding tickDone
-  of-tick o e Unmatched rs h = h
-  of-tick o e (Matching a) rs h = of-admission (a - e) (noneHeld (map (tickRecord e) rs)) (map (tickRecord e) rs) (allReports o e rs) (ticks e rs h)
-  of-tick o e (Joining l c run) rs h = of-joining (leb l e) (l - e) c run rs h
-  of-tick o e Matched rs h = h
+  of-tick o b e Unmatched rs h = h
+  of-tick o b e (Matching a) rs h = of-admission (a - e) (noneHeld (map (tickRecord b e) rs)) (map (tickRecord b e) rs) (allFrames o b e rs) (ticks b e rs h)
+  of-tick o b e (Joining l c run) rs h = of-joining (leb l e) (l - e) c run rs h
+  of-tick o b e Matched rs h = h
 
-  of-elapsed : (o : Configuration) (i : Inner) (w : Checked ℕ) → P (i .records) → OnYes Keeps (andThen w (λ (e : ℕ). yes (tickDone o e (i .state) (i .records))))
-  of-elapsed o i (no n) h = tt
-  of-elapsed o i (yes e) h = of-tick o e (i .state) (i .records) h
+  of-elapsed : (o : Configuration) (b : Bool) (i : Inner) (w : Checked ℕ) → P (i .records) → OnYes Keeps (andThen w (λ (e : ℕ). yes (tickDone o b e (i .state) (i .records))))
+  of-elapsed o b i (no n) h = tt
+  of-elapsed o b i (yes e) h = of-tick o b e (i .state) (i .records) h
 
-  of-pilot : (b p : Bool) (i : Inner) → P (i .records) → Keeps (pilotDone b p i)
+  of-pilot : (b p : Bool) (w : Turn) (i : Inner) → P (i .records) → Keeps (pilotDone b p w i)
   unfolding pilotDone
-  of-pilot false true i h = frees (i .records) h
-  of-pilot true false i h = frees (i .records) h
-  of-pilot false false i h = frees (i .records) h
-  of-pilot true true i h = h
+  of-pilot false true w i h = frees (i .records) h
+  of-pilot true false w i h = frees (i .records) h
+  of-pilot false false w i h = frees (i .records) h
+  of-pilot true true w i h = turns w (i .records) h
 
   of-link : (st : State) (rs : List Record) → P rs → OnYes Keeps (linkRule st rs)
   unfolding linkRule
@@ -104,8 +107,8 @@ module _ (P : List Record → Type 0) (F : Request → Type 0)
   of-rule : (o : Shared) (i : Inner) (x : Call) → Meets F (o .config) x → P (i .records) → OnYes Keeps (rule o i x)
   unfolding rule
   of-rule o i (frame s room) f h = of-frame (o .config) i s (admitted (o .config) room (received s)) (read-as (o .config) room s) f h
-  of-rule o i (tick t room) f h = of-elapsed (o .config) i (tickElapsed o t room) h
-  of-rule o i (pilot p t) f h = on-check Keeps (o .config .good) 16 (yes (pilotDone (plugged (o .pilot)) (plugged p) i)) (λ g. of-pilot (plugged (o .pilot)) (plugged p) i h)
+  of-rule o i (tick t room) f h = of-elapsed (o .config) (isB (o .pilot)) i (tickElapsed o t room) h
+  of-rule o i (pilot p t) f h = on-check Keeps (o .config .good) 16 (yes (pilotDone (plugged (o .pilot)) (plugged p) (turn (o .pilot) p) i)) (λ g. of-pilot (plugged (o .pilot)) (plugged p) (turn (o .pilot) p) i h)
   of-rule o i terminate f h = on-check Keeps (o .config .good) 16 (yes (ended i)) (λ g. frees (i .records) h)
   of-rule o i linkUp f h = on-check Keeps (o .config .good) 16 (linkRule (i .state) (i .records)) (λ g. of-link (i .state) (i .records) h)
 
@@ -117,19 +120,23 @@ module _ (P : List Record → Type 0) (F : Request → Type 0)
   always o i x f h = of-next i (rule o i x) h (of-rule o i x f h)
 
 -- where every request will do
+module _ (F : Request → Type 0) (f : (m : Request) → F m) where
+  every-yes : (w : Checked Received) → OnYes (λ (y : Received). F (y .request)) w
+  every-yes (no n) = tt
+  every-yes (yes y) = f (y .request)
+
+  pub meets-every : (o : Configuration) (x : Call) → Meets F o x
+  meets-every o (frame s room) = every-yes (admitted o room (received s))
+  meets-every o (tick t room) = tt
+  meets-every o (pilot p t) = tt
+  meets-every o terminate = tt
+  meets-every o linkUp = tt
+
 abbrev pub AnyRequest : Request → Type 0
 AnyRequest m = Unit {0}
 
-any-yes : (w : Checked Received) → OnYes (λ (y : Received). AnyRequest (y .request)) w
-any-yes (no n) = tt
-any-yes (yes y) = tt
-
 pub meets-any : (o : Configuration) (x : Call) → Meets AnyRequest o x
-meets-any o (frame s room) = any-yes (admitted o room (received s))
-meets-any o (tick t room) = tt
-meets-any o (pilot p t) = tt
-meets-any o terminate = tt
-meets-any o linkUp = tt
+meets-any = meets-every AnyRequest (λ m. tt)
 
 -- what every single call keeps, every list of calls keeps
 pub after-all : (P : Station → Type 0) → ((s : Station) (x : Call) → P s → P (step s x)) → (s : Station) (xs : List Call) → P s → P (after s xs)

@@ -23,26 +23,26 @@ use Rattle.ends.specs.Answers.{answerOf, summary}
 use Rattle.rules.specs.Answers.{Configures}
 use Rattle.rules.proofs.InvariantKept.{configured-keeps}
 
-module _ (a : StationAddress) (m : ModemAddress) (nid : Nid) (nmk : Nmk) (g : Bool) (rs : List Record) (e : g ≡ isGood a m nid) (r : rs ≡ replicate recordCount freeRecord) where
+module _ (a : StationAddress) (m : ModemAddress) (nid : Nid) (nmk : Nmk) (exempt g : Bool) (rs : List Record) (e : g ≡ isGood a m nid) (r : rs ≡ replicate recordCount freeRecord) where
   abbrev made : Station
   made = record {
-    config = record { good = g; address = a; modem = m; nid = nid; nmk = nmk };
+    config = record { good = g; address = a; modem = m; nid = nid; nmk = nmk; exempt = exempt };
     state = Unmatched;
     pilot = A;
     clock = 0;
     records = rs;
   }
 
-  is-configured : made ≡ configured a m nid nmk
+  is-configured : made ≡ configured a m nid nmk exempt
   unfolding configured
   is-configured = rw (e, r)
 
-  promised : (x : Answer) → answerOf x ≡ summary (configuring a m nid) → Configures a m nid nmk (record { station = made; answer = x })
-  promised x h = record { station = is-configured; answer = h; kept = subst Invariant (sym is-configured) (configured-keeps a m nid nmk) }
+  promised : (x : Answer) → answerOf x ≡ summary (configuring a m nid) → Configures a m nid nmk exempt (record { station = made; answer = x })
+  promised x h = record { station = is-configured; answer = h; kept = subst Invariant (sym is-configured) (configured-keeps a m nid nmk exempt) }
 
-  pub promised-good : g ≡ true → Configures a m nid nmk (record { station = made; answer = Done 0 0 Nothing })
+  pub promised-good : g ≡ true → Configures a m nid nmk exempt (record { station = made; answer = Done 0 0 Nothing })
   unfolding joins
   promised-good t = promised (Done 0 0 Nothing) (rw (sym e ∙ t))
 
-  pub promised-bad : g ≡ false → Configures a m nid nmk (record { station = made; answer = Refused BadConfiguration })
+  pub promised-bad : g ≡ false → Configures a m nid nmk exempt (record { station = made; answer = Refused BadConfiguration })
   promised-bad t = promised (Refused BadConfiguration) (rw (sym e ∙ t))

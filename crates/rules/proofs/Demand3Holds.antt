@@ -1,6 +1,7 @@
 -- Demand 3 holds of the station that any configuration gives.
 use Prim.Native.Nat.{ℕ, zero, suc, _<_, _≤_}
 use mathlib.Core.Path.{_≡_, refl}
+use mathlib.Core.Bool.{Bool}
 use mathlib.Core.List.{List, []}
 use native.Mathlib.Omega.{arith}
 use lib.ListN.{length, replicate, length-replicate}
@@ -20,6 +21,7 @@ use Rattle.rules.proofs.RecordLaws.{holds-free, freed-free}
 use Rattle.rules.proofs.ReplyLaws.{Unicast}
 use Rattle.rules.proofs.Reached.{unicast-freed, one-after}
 use Rattle.rules.proofs.PartOne.{undisturbed}
+use Rattle.rules.proofs.Shorter.{undisturbed-shorter}
 use Rattle.rules.proofs.PartTwo.{order-free}
 
 pub mine-free : (c : CarAddress) (n : ℕ) → mine c (replicate n freeRecord) ≡ []
@@ -27,22 +29,23 @@ unfolding only freeRecord
 mine-free c zero = refl
 mine-free c (suc n) = rw (holds-free c freeRecord (freed-free _)) (mine-free c n)
 
-module _ (address : StationAddress) (modem : ModemAddress) (nid : Nid) (nmk : Nmk) where
-  some-place : 0 < length (configured address modem nid nmk .records)
+module _ (address : StationAddress) (modem : ModemAddress) (nid : Nid) (nmk : Nmk) (exempt : Bool) where
+  some-place : 0 < length (configured address modem nid nmk exempt .records)
   unfolding configured
   some-place = rw (length-replicate recordCount freeRecord) (omega arith)
 
-  all-unicast : All Unicast (configured address modem nid nmk .records)
+  all-unicast : All Unicast (configured address modem nid nmk exempt .records)
   unfolding configured freeRecord
   all-unicast = all-replicate Unicast freeRecord (unicast-freed _) recordCount
 
   -- "its record": no car ever holds two
-  pub one-record : (xs : List Call) (c : CarAddress) → length (mine c (after (configured address modem nid nmk) xs .records)) ≤ 1
+  pub one-record : (xs : List Call) (c : CarAddress) → length (mine c (after (configured address modem nid nmk exempt) xs .records)) ≤ 1
   unfolding configured
-  one-record xs = one-after (configured address modem nid nmk) xs (λ c. rw (mine-free c recordCount) (omega arith))
+  one-record xs = one-after (configured address modem nid nmk exempt) xs (λ c. rw (mine-free c recordCount) (omega arith))
 
-  pub cars-do-not-disturb : Demand3 (configured address modem nid nmk)
+  pub cars-do-not-disturb : Demand3 (configured address modem nid nmk exempt)
   cars-do-not-disturb = record {
-    undisturbed = undisturbed (configured address modem nid nmk) some-place all-unicast;
-    order-free = order-free (configured address modem nid nmk);
+    undisturbed = undisturbed (configured address modem nid nmk exempt) some-place all-unicast;
+    undisturbed-shorter = undisturbed-shorter (configured address modem nid nmk exempt) some-place all-unicast;
+    order-free = order-free (configured address modem nid nmk exempt);
   }

@@ -5,12 +5,15 @@ pub mod RuleLaws
 pub mod ReadingLaws
 pub mod ReceivedLaws
 pub mod ReplyLaws
+pub mod ValidationLaws
 pub mod Always
 pub mod Reached
+pub mod OneValidates
 pub mod Near
 pub mod NearEvents
 pub mod NearFrames
 pub mod PartOne
+pub mod Shorter
 pub mod Places
 pub mod Swap
 pub mod Taken

@@ -14,10 +14,9 @@ use Rattle.ends.specs.Outcomes.{next, outcomeOf}
 use Rattle.rules.specs.Stations.{Inner, Done}
 use Rattle.rules.specs.Records.{sameCar, mine, freePlaces, noneHeld, freed}
 use Rattle.rules.specs.Frames.{Place, ownPlace, freePlace, put}
-use Rattle.rules.specs.Ticks.{tickRecord}
 use Rattle.rules.specs.Demand3.{repliesIn}
 use Rattle.ends.proofs.Logic.{split}
-use Rattle.rules.proofs.RecordLaws.{same-eq, Ready, takes, same-put, mine-put-other, length-put, mine-freed, same-tick, none-tick, mine-none, free-all}
+use Rattle.rules.proofs.RecordLaws.{same-eq, Ready, takes, same-put, mine-put-other, length-put, mine-freed, Keeping, same-map, none-map, mine-none, free-all}
 
 -- car c has the same records in both lists, and the second holds no other car's
 pub record Alone (c : CarAddress) (rs rs′ : List Record) : Type 0 where
@@ -63,10 +62,11 @@ module _ (c : CarAddress) (rs rs′ : List Record) (h : Alone c rs rs′) where
   pub alone-other : (d : CarAddress) (p : Place) (r : Record) → sameCar c d ≡ false → Alone c (put d p r rs) rs′
   alone-other d p r s = record { own = mine-put-other d r p c rs s ∙ h .own; others = h .others; sized = h .sized }
 
-  pub alone-tick : (e : ℕ) → Alone c (map (tickRecord e) rs) (map (tickRecord e) rs′)
-  alone-tick e = record {
-    own = same-tick c e rs rs′ (h .own);
-    others = λ d s. none-tick d e rs′ (h .others d s);
+  -- each record changed in both lists
+  pub alone-map : (g : Record → Record) → Keeping g → Alone c (map g rs) (map g rs′)
+  alone-map g k = record {
+    own = same-map g k c rs rs′ (h .own);
+    others = λ d s. none-map g k d rs′ (h .others d s);
     sized = rw length-map (h .sized);
   }
 

@@ -2,7 +2,7 @@
 use Prim.Native.Nat.{ℕ, zero, suc, _≤_}
 use mathlib.Core.Path.{_≡_, refl, sym, _∙_, ap, subst}
 use mathlib.Core.Bool.{Bool, true, false, _&&_}
-use mathlib.Core.List.{List, [], map}
+use mathlib.Core.List.{List, [], _∷_, map}
 use native.Mathlib.Omega.{arith}
 use Rattle.messages.specs.declared.CarAddress.{CarAddress}
 use Rattle.messages.specs.declared.RunId.{RunId}
@@ -13,18 +13,21 @@ use Rattle.rules.specs.declared.Record.{Record}
 use Rattle.rules.specs.declared.State.{State}
 use Rattle.rules.specs.declared.State.the-variants.{Unmatched, Matching, Joining, Matched}
 use Rattle.ends.specs.Constants.{joiningTime}
-use Rattle.ends.specs.Outcomes.{andThen, next, outcomeOf}
+use Rattle.ends.specs.Outcomes.{framesOf, andThen, next, outcomeOf}
 use Rattle.rules.specs.Stations.{Inner, Done}
 use Rattle.rules.specs.Records.{sameCar, sameRun, mine, freePlaces, freed}
+use Rattle.rules.specs.Replies.{confirmation, framesTo}
 use Rattle.rules.specs.Received.{RecordMessage, Request, forRecord, matchReq}
+use Rattle.rules.specs.Validation.{firstResult}
 use Rattle.rules.specs.Frames.{Change, changeRule, matchRule, changed, confirmed, stateRule}
-use Rattle.rules.specs.Demand3.{accepted, isTen, repliesIn}
+use Rattle.rules.specs.Demand3.{accepted, isTen, anyFailure, repliesIn}
 use Rattle.ends.proofs.Logic.{clash, OnYes}
 use Rattle.ends.proofs.ListLaws.{only-none}
 use Rattle.rules.proofs.RecordLaws.{Ready, takes, mine-freed}
-use Rattle.rules.proofs.RuleLaws.{isAsk, refusedTen, change-ready, change-same, change-closed, match-none}
-use Rattle.rules.proofs.ReceivedLaws.{isMatch, asksIn}
+use Rattle.rules.proofs.RuleLaws.{isAsk, isValidate, refusedTen, SameResult, change-ready, change-same, change-closed, match-none}
+use Rattle.rules.proofs.ReceivedLaws.{isMatch, asksIn, validatesIn}
 use Rattle.rules.proofs.ReplyLaws.{sent-other}
+use Rattle.rules.proofs.ValidationLaws.{fewer-result, fails}
 use Rattle.rules.proofs.Near.{Alone, Ahead, both, late, out, Near, BothGet, stays, alone-takes, alone-put, alone-other}
 
 -- refused with 10, of a change and of its outcome
@@ -54,14 +57,24 @@ module _ (o : Configuration) (c : CarAddress) (a : ℕ) (rs rs′ : List Record)
   own-changed b (no n) r = stays c first second n n near-here
   own-changed b (yes x) r = record { near = record { alone = alone-put c rs rs′ h (x .place) (x .kept) r; states = both }; sent = refl }
 
+  -- where a first validate request is not answered 03, it is answered the same
+  same-answer : (m : RecordMessage) (w : Checked Change) → isValidate m && anyFailure (framesOf (outcomeOf (andThen w (λ (x : Change). yes (changed o (Matching a) rs c x))))) ≡ false
+      → OnYes (SameResult m (firstResult (o .exempt) rs) (firstResult (o .exempt) rs′)) w
+  same-answer m (no n) v = tt
+  same-answer m (yes x) v = λ p e. fewer-result c (o .exempt) rs rs′ (h .own) (h .others)
+      (λ f. clash (anyFailure (framesTo o c (x .replies))) (ap (λ ts. anyFailure (framesTo o c ts)) (e ∙ ap (λ k. confirmation 0 k ∷ []) f) ∙ fails o c) (rw p at v))
+
   own-record : (m : RecordMessage) → isAsk m && isTen (outcomeOf (stateRule o (Matching a) rs c (forRecord m))) ≡ false
+      → isValidate m && anyFailure (framesOf (outcomeOf (stateRule o (Matching a) rs c (forRecord m)))) ≡ false
       → BothGet c first second (stateRule o (Matching a) rs c (forRecord m)) (stateRule o (Matching a) rs′ c (forRecord m))
   unfolding stateRule
-  own-record m t =
-      let w : Checked Change = changeRule c m a (freePlaces rs) (mine c rs) in
-      let r : OnYes (λ (x : Change). Ready (x .place) (freePlaces rs) (mine c rs)) w = change-ready c m a (freePlaces rs) (mine c rs) in
-      let e : w ≡ changeRule c m a (freePlaces rs′) (mine c rs) =
-      change-same c m a (freePlaces rs) (freePlaces rs′) (mine c rs) (ap (λ q. isAsk m && q) (sym (ten-change o _ rs c w)) ∙ t) (on-takes c rs rs′ h w r) in
+  own-record m t v =
+      let x : ℕ = firstResult (o .exempt) rs in
+      let w : Checked Change = changeRule c m a (freePlaces rs) x (mine c rs) in
+      let r : OnYes (λ (x : Change). Ready (x .place) (freePlaces rs) (mine c rs)) w = change-ready c m a (freePlaces rs) x (mine c rs) in
+      let e : w ≡ changeRule c m a (freePlaces rs′) (firstResult (o .exempt) rs′) (mine c rs) =
+      change-same c m a (freePlaces rs) (freePlaces rs′) x (firstResult (o .exempt) rs′) (mine c rs)
+      (ap (λ q. isAsk m && q) (sym (ten-change o _ rs c w)) ∙ t) (on-takes c rs rs′ h w r) (same-answer m w v) in
       rw (← h .own, ← e) (own-changed _ w r)
 
   own-matched : (run : RunId) (w : Checked (Unit {0})) → accepted (outcomeOf (andThen w (λ (x : Unit {0}). yes (confirmed o (Joining joiningTime c run) (map freed rs) c run)))) ≡ false
@@ -74,25 +87,27 @@ module _ (o : Configuration) (c : CarAddress) (a : ℕ) (rs rs′ : List Record)
 -- with no record of the car and admission closed, the second station Unmatched
 late-state : (o : Configuration) (c : CarAddress) (m : Request) (rs : List Record) (a : ℕ) → a ≡ 0 → mine c rs ≡ [] → (n : ℕ) × (stateRule o (Matching a) rs c m ≡ no n)
 unfolding stateRule
-late-state o c (forRecord m) rs zero z e = let r = change-closed c m (freePlaces rs) in (r .0, rw (e, r .1))
+late-state o c (forRecord m) rs zero z e = let r = change-closed c m (freePlaces rs) (firstResult (o .exempt) rs) in (r .0, rw (e, r .1))
 late-state o c (forRecord m) rs (suc a) z e = absurd (omega arith)
 late-state o c (matchReq run) rs a z e = (11, rw (e, match-none run))
 
 own-state : (o : Configuration) (c : CarAddress) (m : Request) (st st′ : State) (rs rs′ : List Record) → Alone c rs rs′ → Ahead (mine c rs′) st st′
     → isMatch m && accepted (outcomeOf (stateRule o st rs c m)) ≡ false → asksIn m && isTen (outcomeOf (stateRule o st rs c m)) ≡ false
+    → validatesIn m && anyFailure (framesOf (outcomeOf (stateRule o st rs c m))) ≡ false
     → BothGet c (record { state = st; records = rs }) (record { state = st′; records = rs′ }) (stateRule o st rs c m) (stateRule o st′ rs′ c m)
 unfolding stateRule
-own-state o c (forRecord m) st st′ rs rs′ h (both {a}) p t = own-record o c a rs rs′ h m t
-own-state o c (matchReq run) st st′ rs rs′ h (both {a}) p t = rw (← h .own) (own-matched o c a rs rs′ h run (matchRule run (mine c rs)) p)
-own-state o c m st st′ rs rs′ h (late {a} z e) p t =
+own-state o c (forRecord m) st st′ rs rs′ h (both {a}) p t v = own-record o c a rs rs′ h m t v
+own-state o c (matchReq run) st st′ rs rs′ h (both {a}) p t v = rw (← h .own) (own-matched o c a rs rs′ h run (matchRule run (mine c rs)) p)
+own-state o c m st st′ rs rs′ h (late {a} z e) p t v =
     let r = late-state o c m rs a z (h .own ∙ e) in
     rw (r .1) (stays c _ _ (r .0) 8 (record { alone = h; states = late z e }))
-own-state o c m st st′ rs rs′ h (out e) p t = stays c _ _ 8 8 (record { alone = h; states = out e })
+own-state o c m st st′ rs rs′ h (out e) p t v = stays c _ _ 8 8 (record { alone = h; states = out e })
 
 pub own-frame : (o : Configuration) (c : CarAddress) (m : Request) (i j : Inner) → Near c i j
     → isMatch m && accepted (outcomeOf (stateRule o (i .state) (i .records) c m)) ≡ false → asksIn m && isTen (outcomeOf (stateRule o (i .state) (i .records) c m)) ≡ false
+    → validatesIn m && anyFailure (framesOf (outcomeOf (stateRule o (i .state) (i .records) c m))) ≡ false
     → BothGet c i j (stateRule o (i .state) (i .records) c m) (stateRule o (j .state) (j .records) c m)
-own-frame o c m i j h p t = own-state o c m (i .state) (j .state) (i .records) (j .records) (h .alone) (h .states) p t
+own-frame o c m i j h p t v = own-state o c m (i .state) (j .state) (i .records) (j .records) (h .alone) (h .states) p t v
 
 -- ---- a frame of another car d
 
@@ -129,7 +144,7 @@ module _ (o : Configuration) (c d : CarAddress) (u : isUnicast (d .0) ≡ true) 
   other-state : (m : Request) (st : State) → i .state ≡ st → isMatch m && accepted (outcomeOf (stateRule o st (i .records) d m)) ≡ false → FirstGets c i j (stateRule o st (i .records) d m)
   unfolding stateRule
   other-state m Unmatched e t = passes c i j 8 h
-  other-state (forRecord m) (Matching a) e t = other-changed _ e (changeRule d m a (freePlaces (i .records)) (mine d (i .records)))
+  other-state (forRecord m) (Matching a) e t = other-changed _ e (changeRule d m a (freePlaces (i .records)) (firstResult (o .exempt) (i .records)) (mine d (i .records)))
   other-state (matchReq run) (Matching a) e t = other-matched (Joining joiningTime d run) (map freed (i .records)) run (matchRule run (mine d (i .records))) t
   other-state (forRecord m) (Joining l b k) e t = passes c i j 8 h
   other-state (matchReq run) (Joining l b k) e t = other-again (Joining l b k) (i .records) run (sameCar d b && sameRun run k) t

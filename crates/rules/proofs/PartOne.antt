@@ -1,35 +1,36 @@
--- Demand 3, part one: other cars' frames make no difference to a car.
+-- Demand 3, part one, for the longer window: other cars' frames make no difference to a car.
 use Prim.Native.Nat.{ℕ, _<_}
 use mathlib.Core.Path.{_≡_, refl, sym, _∙_, ap, subst}
-use mathlib.Core.Bool.{Bool, true, false, not, _&&_}
+use mathlib.Core.Bool.{Bool, true, false, not, _&&_, and-true}
 use mathlib.Core.List.{List, [], _∷_, _++_}
 use lib.ListN.{length}
 use borrow.Author.Tests.{not-true, not-false}
 use Rattle.messages.specs.declared.CarAddress.{CarAddress}
-use Rattle.messages.specs.Table.{slacParmReq, slacMatchReq}
+use Rattle.messages.specs.Table.{slacParmReq, validateReq, slacMatchReq}
 use Rattle.messages.specs.Reading.{Checked, no, yes, readRules}
 use Rattle.messages.proofs.LayoutLaws.{and-left, and-right}
 use Rattle.rules.specs.declared.Configuration.{Configuration}
 use Rattle.rules.specs.declared.Station.{Station}
 use Rattle.ends.specs.Lists.{only, All}
 use Rattle.rules.specs.Calls.{Call, frame, tick, pilot, terminate, linkUp}
-use Rattle.ends.specs.Outcomes.{Outcome, next, outcomeOf}
+use Rattle.ends.specs.Outcomes.{Outcome, framesOf, next, outcomeOf}
 use Rattle.rules.specs.Stations.{Shared, Inner, shared, inner, build}
 use Rattle.rules.specs.Records.{sameCar}
 use Rattle.rules.specs.Received.{Received, received}
-use Rattle.rules.specs.Events.{plugged}
+use Rattle.rules.specs.Validation.{turn}
+use Rattle.rules.specs.Events.{plugged, isB}
 use Rattle.rules.specs.Frames.{stateRule, admitted, frameRule}
 use Rattle.rules.specs.Ticks.{tickElapsed}
 use Rattle.rules.specs.Rules.{rule, sharedStep, step, outcome, after}
-use Rattle.rules.specs.Demand3.{named, isCar, isOther, without, accepted, isTen, isKind, repliesIn, replies, isPlugIn, isEnd, ends, Lasts, begun, further, matched, SameFor, Undisturbed}
+use Rattle.rules.specs.Demand3.{named, isCar, isOther, without, accepted, isTen, isKind, isOwnAccepted, anyFailure, repliesIn, replies, isPlugIn, isEnd, endsFor, ends, begun, further, matched, Longer, SameFor, Undisturbed}
 use Rattle.ends.proofs.Logic.{split, clash, or-left, or-right, OnYes}
 use Rattle.ends.proofs.ListLaws.{only-yes, only-no}
 use Rattle.rules.proofs.RecordLaws.{same-eq}
-use Rattle.rules.proofs.ReceivedLaws.{isMatch, asksIn, ReadAs, read-as}
+use Rattle.rules.proofs.ReceivedLaws.{isMatch, asksIn, validatesIn, ReadAs, read-as}
 use Rattle.rules.proofs.ReplyLaws.{Unicast}
 use Rattle.rules.proofs.Reached.{unicast-next, unicast-after, length-after}
 use Rattle.rules.proofs.Near.{Near, BothGet, stays}
-use Rattle.rules.proofs.NearEvents.{elapsed-near, pilot-near, terminate-near, link-near, plug-near}
+use Rattle.rules.proofs.NearEvents.{elapsed-near, pilot-near, terminate-near, link-near, plugsIn, plug-in, plugged-near}
 use Rattle.rules.proofs.NearFrames.{own-frame, FirstGets, passes, other-frame, Ends, end-frame}
 
 -- ---- a frame
@@ -52,18 +53,26 @@ module _ (c : CarAddress) (s : List ℕ) (room : ℕ) (y : Received) (t : ReadAs
   unfolding isKind
   is-ask = t .asking
 
+  is-validate : isKind validateReq (frame s room) ≡ validatesIn (y .request)
+  unfolding isKind
+  is-validate = t .validating
+
   -- the call does not end the comparison
   lasts-match : (u : Outcome) → ends c (frame s room) u ≡ false → isMatch (y .request) && accepted u ≡ false
-  unfolding ends isEnd
-  lasts-match u e = ap (λ q. q && accepted u) (sym is-match) ∙ or-left _ _ e
+  unfolding ends endsFor isEnd
+  lasts-match u e = ap (λ q. q && accepted u) (sym is-match) ∙ or-left _ _ (or-left _ _ e)
+
+  -- said of car c's own requests
+  own-part : (k b : Bool) → sameCar c (y .car) ≡ true → k && isCar c (named (frame s room)) && b ≡ false → k && b ≡ false
+  own-part k b p e = sym (rw (is-car, p) (ap (λ q. q && b) (and-true k))) ∙ e
 
   lasts-ask : (u : Outcome) → sameCar c (y .car) ≡ true → ends c (frame s room) u ≡ false → asksIn (y .request) && isTen u ≡ false
+  unfolding ends endsFor
+  lasts-ask u p e = ap (λ q. q && isTen u) (sym is-ask) ∙ own-part (isKind slacParmReq (frame s room)) (isTen u) p (or-right (isEnd (frame s room) && accepted u) _ (or-left _ _ e))
+
+  lasts-validate : (u : Outcome) → sameCar c (y .car) ≡ true → ends c (frame s room) u ≡ false → validatesIn (y .request) && anyFailure (framesOf u) ≡ false
   unfolding ends
-  lasts-ask u p e = sym (rw (is-ask, is-car, p) (and-mid (asksIn (y .request)) (isTen u))) ∙ or-right (isEnd (frame s room) && accepted u) _ e
-    where
-      and-mid : (a b : Bool) → a && true && b ≡ a && b
-      and-mid true b = refl
-      and-mid false b = refl
+  lasts-validate u p e = ap (λ q. q && anyFailure (framesOf u)) (sym is-validate) ∙ own-part (isKind validateReq (frame s room)) (anyFailure (framesOf u)) p (or-right (endsFor c (frame s room) u) _ e)
 
 -- one that both get
 both-frame : (o : Configuration) (c : CarAddress) (i j : Inner) (s : List ℕ) (room : ℕ) (w : Checked Received) → OnYes (ReadAs (readRules s)) w → Near c i j
@@ -74,7 +83,8 @@ both-frame o c i j s room (yes y) t h f e =
     let q : c ≡ y .car = same-eq c (y .car) p in
     let a : isMatch (y .request) && accepted (outcomeOf (stateRule o (i .state) (i .records) (y .car) (y .request))) ≡ false = lasts-match c s room y t _ e in
     let b : asksIn (y .request) && isTen (outcomeOf (stateRule o (i .state) (i .records) (y .car) (y .request))) ≡ false = lasts-ask c s room y t _ p e in
-    rw (← q) (own-frame o c (y .request) i j h (rw (← q) at a) (rw (← q) at b))
+    let d : validatesIn (y .request) && anyFailure (framesOf (outcomeOf (stateRule o (i .state) (i .records) (y .car) (y .request)))) ≡ false = lasts-validate c s room y t _ p e in
+    rw (← q) (own-frame o c (y .request) i j h (rw (← q) at a) (rw (← q) at b) (rw (← q) at d))
 
 -- one that only the first gets
 skip-frame : (o : Configuration) (c : CarAddress) (i j : Inner) (s : List ℕ) (room : ℕ) (w : Checked Received) → OnYes (ReadAs (readRules s)) w → Near c i j
@@ -101,11 +111,11 @@ match-frame o c i j s room (yes y) t h e =
 
 both-call : (o : Shared) (c : CarAddress) (i j : Inner) (x : Call) → Near c i j → All Unicast (i .records) → All Unicast (j .records)
     → isOther c (named x) ≡ false → ends c x (outcomeOf (rule o i x)) ≡ false → BothGet c i j (rule o i x) (rule o j x)
-unfolding rule ends isEnd
+unfolding rule ends endsFor isEnd
 both-call o c i j (frame s room) h q q′ f e = both-frame (o .config) c i j s room (admitted (o .config) room (received s)) (read-as (o .config) room s) h f e
-both-call o c i j (tick t room) h q q′ f e = elapsed-near (o .config) c i j (tickElapsed o t room) q q′ h
-both-call o c i j (pilot p t) h q q′ f e = pilot-near c i j h (o .config .good) (plugged (o .pilot)) (plugged p) (or-left _ _ e)
-both-call o c i j terminate h q q′ f e = terminate-near c i j h (o .config .good) (or-left _ _ e)
+both-call o c i j (tick t room) h q q′ f e = elapsed-near (o .config) c (isB (o .pilot)) i j (tickElapsed o t room) q q′ h
+both-call o c i j (pilot p t) h q q′ f e = pilot-near c i j h (o .config .good) (plugged (o .pilot)) (plugged p) (turn (o .pilot) p) (or-left _ _ (or-left _ _ e))
+both-call o c i j terminate h q q′ f e = terminate-near c i j h (o .config .good) (or-left _ _ (or-left _ _ e))
 both-call o c i j linkUp h q q′ f e = link-near c i j h (o .config .good)
 
 -- other cars' calls are frames
@@ -125,9 +135,9 @@ skip-shared o c (pilot p t) f = clash true refl (sym f)
 skip-shared o c terminate f = clash true refl (sym f)
 skip-shared o c linkUp f = clash true refl (sym f)
 
-match-call : (o : Shared) (c : CarAddress) (i j : Inner) (x : Call) → Near c i j → isKind slacMatchReq x && isCar c (named x) && accepted (outcomeOf (rule o i x)) ≡ true
+match-call : (o : Shared) (c : CarAddress) (i j : Inner) (x : Call) → Near c i j → isOwnAccepted c slacMatchReq x (outcomeOf (rule o i x)) ≡ true
     → (isOther c (named x) ≡ false) × Ends c i j (rule o i x) (rule o j x)
-unfolding rule isKind
+unfolding rule isKind isOwnAccepted
 match-call o c i j (frame s room) h e = match-frame (o .config) c i j s room (admitted (o .config) room (received s)) (read-as (o .config) room s) h e
 match-call o c i j (tick t room) h e = clash true refl (sym e)
 match-call o c i j (pilot p t) h e = clash true refl (sym e)
@@ -142,7 +152,7 @@ without-yes c x xs f = only-yes (λ (x : Call). not (isOther c (named x))) x xs 
 without-no : (c : CarAddress) (x : Call) (xs : List Call) → isOther c (named x) ≡ true → without c (x ∷ xs) ≡ without c xs
 without-no c x xs f = only-no (λ (x : Call). not (isOther c (named x))) x xs (rw f)
 
-since-plug : (c : CarAddress) {s : Station} {xs : List Call} → Lasts c s xs → (j : Inner) → Near c (inner s) j → All Unicast (s .records) → All Unicast (j .records)
+since-plug : (c : CarAddress) {s : Station} {xs : List Call} → Longer c s xs → (j : Inner) → Near c (inner s) j → All Unicast (s .records) → All Unicast (j .records)
     → SameFor c s xs (build (shared s) j) (without c xs)
 unfolding replies step outcome only
 since-plug c (begun {s}) j h q q′ = record { replied = refl; own = h .alone .own }
@@ -173,20 +183,22 @@ shared-after c s t (x ∷ xs) e = split (isOther c (named x))
     (λ f. shared-after c (step s x) t xs (skip-shared (shared s) c x f ∙ e) ∙ ap (λ l. shared (after t l)) (sym (without-no c x xs f)))
     (λ f. shared-after c (step s x) (step t x) xs (ap (λ o. sharedStep o x) e) ∙ ap (λ l. shared (after t l)) (sym (without-yes c x xs f)))
 
-plug-call : (c : CarAddress) (o : Shared) (i j : Inner) (x : Call) → isPlugIn (build o i) x ≡ true → 0 < length (j .records) → Near c (next i (rule o i x)) (next j (rule o j x))
+-- a plug-in makes the same of every station
+pub plug-call : (o : Shared) (i : Inner) (x : Call) → isPlugIn (build o i) x ≡ true → (k : Inner) → next k (rule o k x) ≡ plugsIn k
 unfolding isPlugIn rule outcome
-plug-call c o i j (frame s room) h z = clash true refl (sym h)
-plug-call c o i j (tick t room) h z = clash true refl (sym h)
-plug-call c o i j (pilot p t) h z = plug-near c i j (o .config .good) (plugged (o .pilot)) (plugged p) z h
-plug-call c o i j terminate h z = clash true refl (sym h)
-plug-call c o i j linkUp h z = clash true refl (sym h)
+plug-call o i (frame s room) h k = clash true refl (sym h)
+plug-call o i (tick t room) h k = clash true refl (sym h)
+plug-call o i (pilot p t) h k = plug-in (o .config .good) (plugged (o .pilot)) (plugged p) (turn (o .pilot) p) i h k
+plug-call o i terminate h k = clash true refl (sym h)
+plug-call o i linkUp h k = clash true refl (sym h)
 
-pub undisturbed : (s₀ : Station) → 0 < length (s₀ .records) → All Unicast (s₀ .records) → (c : CarAddress) (before : List Call) (plug : Call) (since : List Call) → Undisturbed s₀ c before plug since
+pub undisturbed : (s₀ : Station) → 0 < length (s₀ .records) → All Unicast (s₀ .records) → (c : CarAddress) (before : List Call) (plug : Call) (since : List Call) → Undisturbed Longer s₀ c before plug since
 unfolding step
 undisturbed s₀ z q c before plug since h l =
     let s₁ : Station = after s₀ before in
     let t₁ : Station = after s₀ (without c before) in
-    let n : Near c (inner (step s₁ plug)) (next (inner t₁) (rule (shared s₁) (inner t₁) plug)) = plug-call c (shared s₁) (inner s₁) (inner t₁) plug h (rw (length-after s₀ (without c before)) z) in
+    let w : (k : Inner) → next k (rule (shared s₁) k plug) ≡ plugsIn k = plug-call (shared s₁) (inner s₁) plug h in
+    let n : Near c (inner (step s₁ plug)) (next (inner t₁) (rule (shared s₁) (inner t₁) plug)) = rw (w (inner s₁), w (inner t₁)) (plugged-near c (inner s₁) (inner t₁) (rw (length-after s₀ (without c before)) z)) in
     subst (λ (o : Shared). SameFor c (step s₁ plug) since (build (sharedStep o plug) (next (inner t₁) (rule o (inner t₁) plug))) (without c since))
     (shared-after c s₀ s₀ before refl)
     (since-plug c l (next (inner t₁) (rule (shared s₁) (inner t₁) plug)) n (unicast-next (shared s₁) (inner s₁) plug (unicast-after s₀ before q)) (unicast-next (shared s₁) (inner t₁) plug (unicast-after s₀ (without c before) q)))

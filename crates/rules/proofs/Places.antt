@@ -13,23 +13,27 @@ use Rattle.rules.specs.declared.Record.{Record}
 use Rattle.rules.specs.declared.State.{State}
 use Rattle.rules.specs.declared.State.the-variants.{Unmatched, Matching, Joining, Matched}
 use Rattle.rules.specs.declared.Station.{Station}
+use Rattle.rules.specs.declared.Turn.{Turn}
 use Rattle.ends.specs.Constants.{joiningTime}
 use Rattle.ends.specs.Lists.{only, Permuted}
 use Rattle.rules.specs.Calls.{Call, frame, tick, pilot, terminate, linkUp}
 use Rattle.ends.specs.Outcomes.{andThen, next, outcomeOf}
 use Rattle.rules.specs.Stations.{Shared, Inner, shared, inner, build, Done}
 use Rattle.rules.specs.Records.{sameCar, sameRun, isHeld, mine, freePlaces, noneHeld, freed}
+use Rattle.rules.specs.Replies.{Reply, isReport, isConfirmation}
 use Rattle.rules.specs.Received.{Request, forRecord, matchReq, Received, received}
-use Rattle.rules.specs.Events.{plugged, ended, pilotDone, linkRule}
+use Rattle.rules.specs.Validation.{firstResult, turn, toggledRecord}
+use Rattle.rules.specs.Events.{plugged, isB, ended, pilotDone, linkRule}
 use Rattle.rules.specs.Frames.{Place, Change, changeRule, matchRule, put, changed, confirmed, stateRule, admitted, frameRule}
-use Rattle.rules.specs.Ticks.{tickElapsed, tickRecord, tickReports, allReports, admissionDone, joiningDone, tickDone}
+use Rattle.rules.specs.Ticks.{tickElapsed, tickRecord, tickFrames, framesOfAll, allFrames, admissionDone, joiningDone, tickDone}
 use Rattle.rules.specs.Rules.{rule, step, outcome, after}
 use Rattle.rules.specs.Demand3.{events, Alike, AllAlike}
 use Rattle.ends.proofs.Logic.{split, OnYes, check-both}
-use Rattle.ends.proofs.ListLaws.{joins-permuted, joins-only}
-use Rattle.rules.proofs.RecordLaws.{same-eq, Ready, ready-takes, same-put, mine-put-other, length-put, mine-freed, same-tick, same-held, same-none, same-free}
+use Rattle.ends.proofs.ListLaws.{permuted-append, joins-permuted, joins-only}
+use Rattle.rules.proofs.RecordLaws.{same-eq, Ready, ready-takes, same-put, mine-put-other, length-put, mine-freed, Keeping, same-map, tick-keeping, turn-keeping, same-held, same-none, same-free}
 use Rattle.rules.proofs.RuleLaws.{change-ready}
-use Rattle.rules.proofs.ReplyLaws.{reports-free}
+use Rattle.rules.proofs.ReplyLaws.{frames-free}
+use Rattle.rules.proofs.ValidationLaws.{same-result}
 
 -- ---- records at other places
 
@@ -47,8 +51,8 @@ module _ (rs qs : List Record) (h : Places rs qs) where
   places-freed : Places (map freed rs) (map freed qs)
   places-freed = places-map freed (λ c. mine-freed c rs ∙ sym (mine-freed c qs))
 
-  places-tick : (e : ℕ) → Places (map (tickRecord e) rs) (map (tickRecord e) qs)
-  places-tick e = places-map (tickRecord e) (λ c. same-tick c e rs qs (h .own c))
+  places-each : (g : Record → Record) → Keeping g → Places (map g rs) (map g qs)
+  places-each g k = places-map g (λ c. same-map g k c rs qs (h .own c))
 
   places-put : (c : CarAddress) (p : Place) (r : Record) → Ready p (freePlaces rs) (mine c rs) → Places (put c p r rs) (put c p r qs)
   places-put c p r w = record {
@@ -58,11 +62,17 @@ module _ (rs qs : List Record) (h : Places rs qs) where
     sizes = length-put c r p rs ∙ h .sizes ∙ sym (length-put c r p qs);
   }
 
-  -- a tick's reports are the same, in another order
-  places-reports : (o : Configuration) (e : ℕ) → Permuted (allReports o e rs) (allReports o e qs)
-  places-reports o e =
-      rw (joins-only (tickReports o e) isHeld (reports-free o e) rs, joins-only (tickReports o e) isHeld (reports-free o e) qs)
-      (joins-permuted (tickReports o e) (only isHeld rs) (only isHeld qs) (same-held rs qs (h .own)))
+  places-sort : (p : Reply → Bool) (o : Configuration) (b : Bool) (e : ℕ) → Permuted (framesOfAll p o b e rs) (framesOfAll p o b e qs)
+  places-sort p o b e =
+      rw (joins-only (tickFrames p o b e) isHeld (frames-free p o b e) rs, joins-only (tickFrames p o b e) isHeld (frames-free p o b e) qs)
+      (joins-permuted (tickFrames p o b e) (only isHeld rs) (only isHeld qs) (same-held rs qs (h .own)))
+
+  -- a tick's frames are the same, in another order
+  places-frames : (o : Configuration) (b : Bool) (e : ℕ) → Permuted (allFrames o b e rs) (allFrames o b e qs)
+  unfolding allFrames
+  places-frames o b e =
+      permuted-append (framesOfAll isReport o b e rs) (framesOfAll isReport o b e qs) (framesOfAll isConfirmation o b e rs) (framesOfAll isConfirmation o b e qs)
+      (places-sort isReport o b e) (places-sort isConfirmation o b e)
 
 -- ---- one call on both
 
@@ -110,8 +120,8 @@ module _ (o : Configuration) (rs qs : List Record) (h : Places rs qs) where
   unfolding stateRule
   agree-state Unmatched c m = refuse Unmatched rs qs h 8
   agree-state (Matching a) c (forRecord m) =
-      rw (← h .own c, ← places-free rs qs h)
-      (agree-changed (Matching a) rs qs h o c (changeRule c m a (freePlaces rs) (mine c rs)) (change-ready c m a (freePlaces rs) (mine c rs)))
+      rw (← h .own c, ← places-free rs qs h, ← same-result (o .exempt) rs qs (h .own))
+      (agree-changed (Matching a) rs qs h o c (changeRule c m a (freePlaces rs) (firstResult (o .exempt) rs) (mine c rs)) (change-ready c m a (freePlaces rs) (firstResult (o .exempt) rs) (mine c rs)))
   agree-state (Matching a) c (matchReq run) = rw (← h .own c) (agree-matched (Matching a) rs qs h o c run (matchRule run (mine c rs)))
   agree-state (Joining l d k) c (forRecord m) = refuse (Joining l d k) rs qs h 8
   agree-state (Joining l d k) c (matchReq run) =
@@ -124,12 +134,12 @@ module _ (o : Configuration) (rs qs : List Record) (h : Places rs qs) where
   agree-frame st (no n) = refuse st rs qs h n
   agree-frame st (yes y) = agree-state st (y .car) (y .request)
 
-  agree-pilot : (st : State) (was is : Bool) → Agrees (first st rs qs h) (second st rs qs h) (yes (pilotDone was is (first st rs qs h))) (yes (pilotDone was is (second st rs qs h)))
+  agree-pilot : (st : State) (was is : Bool) (w : Turn) → Agrees (first st rs qs h) (second st rs qs h) (yes (pilotDone was is w (first st rs qs h))) (yes (pilotDone was is w (second st rs qs h)))
   unfolding pilotDone
-  agree-pilot st false true = record { moved = record { places = places-freed rs qs h; states = refl }; gave = refl }
-  agree-pilot st true false = record { moved = record { places = places-freed rs qs h; states = refl }; gave = refl }
-  agree-pilot st false false = record { moved = record { places = places-freed rs qs h; states = refl }; gave = refl }
-  agree-pilot st true true = record { moved = here st rs qs h; gave = refl }
+  agree-pilot st false true w = record { moved = record { places = places-freed rs qs h; states = refl }; gave = refl }
+  agree-pilot st true false w = record { moved = record { places = places-freed rs qs h; states = refl }; gave = refl }
+  agree-pilot st false false w = record { moved = record { places = places-freed rs qs h; states = refl }; gave = refl }
+  agree-pilot st true true w = record { moved = record { places = places-each rs qs h (toggledRecord w) (turn-keeping w); states = refl }; gave = refl }
 
   agree-link : (st : State) → Agrees (first st rs qs h) (second st rs qs h) (linkRule st rs) (linkRule st qs)
   unfolding linkRule
@@ -153,29 +163,29 @@ unfolding joiningDone
 tick-joining t room i j true l c run rs qs h = record { moved = record { places = h; states = refl }; gave = (refl, refl) }
 tick-joining t room i j false l c run rs qs h = record { moved = record { places = h; states = refl }; gave = (refl, refl) }
 
-tick-state : (t room : ℕ) (o : Configuration) (e : ℕ) (i j : Inner) (st : State) (rs qs : List Record) → Places rs qs → Follows (tick t room) i j (yes (tickDone o e st rs)) (yes (tickDone o e st qs))
+tick-state : (t room : ℕ) (o : Configuration) (b : Bool) (e : ℕ) (i j : Inner) (st : State) (rs qs : List Record) → Places rs qs → Follows (tick t room) i j (yes (tickDone o b e st rs)) (yes (tickDone o b e st qs))
 unfolding tickDone
-tick-state t room o e i j Unmatched rs qs h = record { moved = record { places = h; states = refl }; gave = (refl, refl) }
-tick-state t room o e i j (Matching a) rs qs h =
-    let k : Places (map (tickRecord e) rs) (map (tickRecord e) qs) = places-tick rs qs h e in
-    rw (← same-none (map (tickRecord e) rs) (map (tickRecord e) qs) (k .own))
-    (tick-admission t room i j (a - e) (noneHeld (map (tickRecord e) rs)) (map (tickRecord e) rs) (map (tickRecord e) qs) (allReports o e rs) (allReports o e qs) k (places-reports rs qs h o e))
-tick-state t room o e i j (Joining l c run) rs qs h = tick-joining t room i j (leb l e) (l - e) c run rs qs h
-tick-state t room o e i j Matched rs qs h = record { moved = record { places = h; states = refl }; gave = (refl, refl) }
+tick-state t room o b e i j Unmatched rs qs h = record { moved = record { places = h; states = refl }; gave = (refl, refl) }
+tick-state t room o b e i j (Matching a) rs qs h =
+    let k : Places (map (tickRecord b e) rs) (map (tickRecord b e) qs) = places-each rs qs h (tickRecord b e) (tick-keeping b e) in
+    rw (← same-none (map (tickRecord b e) rs) (map (tickRecord b e) qs) (k .own))
+    (tick-admission t room i j (a - e) (noneHeld (map (tickRecord b e) rs)) (map (tickRecord b e) rs) (map (tickRecord b e) qs) (allFrames o b e rs) (allFrames o b e qs) k (places-frames rs qs h o b e))
+tick-state t room o b e i j (Joining l c run) rs qs h = tick-joining t room i j (leb l e) (l - e) c run rs qs h
+tick-state t room o b e i j Matched rs qs h = record { moved = record { places = h; states = refl }; gave = (refl, refl) }
 
-tick-elapsed : (t room : ℕ) (o : Configuration) (st : State) (rs qs : List Record) → (h : Places rs qs) → (w : Checked ℕ)
-    → Follows (tick t room) (first st rs qs h) (second st rs qs h) (andThen w (λ (e : ℕ). yes (tickDone o e st rs))) (andThen w (λ (e : ℕ). yes (tickDone o e st qs)))
-tick-elapsed t room o st rs qs h (no n) = record { moved = here st rs qs h; gave = refl }
-tick-elapsed t room o st rs qs h (yes e) = tick-state t room o e (first st rs qs h) (second st rs qs h) st rs qs h
+tick-elapsed : (t room : ℕ) (o : Configuration) (b : Bool) (st : State) (rs qs : List Record) → (h : Places rs qs) → (w : Checked ℕ)
+    → Follows (tick t room) (first st rs qs h) (second st rs qs h) (andThen w (λ (e : ℕ). yes (tickDone o b e st rs))) (andThen w (λ (e : ℕ). yes (tickDone o b e st qs)))
+tick-elapsed t room o b st rs qs h (no n) = record { moved = here st rs qs h; gave = refl }
+tick-elapsed t room o b st rs qs h (yes e) = tick-state t room o b e (first st rs qs h) (second st rs qs h) st rs qs h
 
 -- ---- every call
 
 follows-in : (o : Shared) (st : State) (rs qs : List Record) (h : Places rs qs) (x : Call) → Follows x (first st rs qs h) (second st rs qs h) (rule o (first st rs qs h) x) (rule o (second st rs qs h) x)
 unfolding rule
 follows-in o st rs qs h (frame s room) = let a = agree-frame (o .config) rs qs h st (admitted (o .config) room (received s)) in record { moved = a .moved; gave = a .gave }
-follows-in o st rs qs h (tick t room) = tick-elapsed t room (o .config) st rs qs h (tickElapsed o t room)
+follows-in o st rs qs h (tick t room) = tick-elapsed t room (o .config) (isB (o .pilot)) st rs qs h (tickElapsed o t room)
 follows-in o st rs qs h (pilot p t) =
-    let a = check-both (Agrees (first st rs qs h) (second st rs qs h)) (o .config .good) 16 _ _ (refuse st rs qs h 16) (λ g. agree-pilot (o .config) rs qs h st (plugged (o .pilot)) (plugged p)) in
+    let a = check-both (Agrees (first st rs qs h) (second st rs qs h)) (o .config .good) 16 _ _ (refuse st rs qs h 16) (λ g. agree-pilot (o .config) rs qs h st (plugged (o .pilot)) (plugged p) (turn (o .pilot) p)) in
     record { moved = a .moved; gave = a .gave }
 follows-in o st rs qs h terminate =
     let a = check-both (Agrees (first st rs qs h) (second st rs qs h)) (o .config .good) 16 (yes (ended (first st rs qs h))) (yes (ended (second st rs qs h))) (refuse st rs qs h 16)

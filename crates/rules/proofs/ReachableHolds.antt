@@ -3,7 +3,9 @@ use Prim.Native.Nat.{ℕ, zero, suc, _-_}
 use mathlib.Core.Path.{_≡_, refl, sym, _∙_, ap, subst}
 use mathlib.Core.Bool.{Bool, true, false, cond, _&&_}
 use mathlib.Core.List.{List, [], map}
+use native.Mathlib.Omega.{arith}
 use lib.Dec.{leb}
+use lib.ListN.{replicate}
 use Rattle.messages.specs.declared.CarAddress.{CarAddress}
 use Rattle.messages.specs.declared.ModemAddress.{ModemAddress}
 use Rattle.messages.specs.declared.Nid.{Nid}
@@ -17,32 +19,33 @@ use Rattle.rules.specs.declared.Record.{Record}
 use Rattle.rules.specs.declared.State.{State}
 use Rattle.rules.specs.declared.State.the-variants.{Unmatched, Matching, Joining, Matched}
 use Rattle.rules.specs.declared.Station.{Station}
+use Rattle.rules.specs.declared.Turn.{Turn}
 use Rattle.rules.specs.Constants.{recordCount}
 use Rattle.rules.specs.Calls.{Call, frame, tick, pilot, terminate, linkUp}
 use Rattle.ends.specs.Outcomes.{andThen, next}
 use Rattle.rules.specs.Stations.{Shared, Inner, shared, inner, Done}
 use Rattle.rules.specs.Records.{sameCar, sameRun, mine, freePlaces, noneHeld, freed}
 use Rattle.rules.specs.Received.{Request, forRecord, matchReq, Received, received}
-use Rattle.rules.specs.Events.{plugged, ended, pilotDone, linkRule}
+use Rattle.rules.specs.Validation.{firstResult, turn, toggledRecord}
+use Rattle.rules.specs.Events.{plugged, isB, ended, pilotDone, linkRule}
 use Rattle.rules.specs.Frames.{Change, changeRule, matchRule, changed, confirmed, stateRule, admitted, frameRule}
-use Rattle.ends.specs.Clock.{tickTime}
-use Rattle.rules.specs.Ticks.{tickElapsed, tickRecord, allReports, admissionDone, joiningDone, tickDone}
-use Rattle.rules.specs.Rules.{configured, rule, takesReading, takesPilot, sharedStep, step, after}
+use Rattle.rules.specs.Ticks.{tickElapsed, tickRecord, allFrames, admissionDone, joiningDone, tickDone}
+use Rattle.rules.specs.Rules.{freeRecord, configured, rule, takesReading, takesPilot, sharedStep, step, after}
 use Rattle.rules.specs.Reachable.{HeldIn, Reachable}
 use Rattle.ends.proofs.Logic.{clash, OnYes, on-check}
-use Rattle.rules.proofs.RecordLaws.{mine-freed, mine-none}
+use Rattle.rules.proofs.RecordLaws.{Keeping, turn-keeping, mine-none, none-freed, none-each}
+use Rattle.rules.proofs.ValidationLaws.{free-busy}
 use Rattle.rules.proofs.Reached.{one-next}
 use Rattle.rules.proofs.Always.{after-all}
+use Rattle.rules.proofs.OneValidates.{one-validates}
 use Rattle.rules.proofs.InvariantKept.{config-same}
+use Rattle.rules.proofs.Refusals.{bad-refuses}
 use Rattle.rules.proofs.Demand3Holds.{one-record, mine-free}
 
 -- ---- records are held in Matching only
 
 abbrev Held : Done → Type 0
 Held d = HeldIn (d .after .state) (d .after .records)
-
-none-freed : (rs : List Record) → noneHeld (map freed rs) ≡ true
-none-freed rs = mine-none (map freed rs) (λ c. mine-freed c rs)
 
 held-change : (o : Configuration) (a : ℕ) (rs : List Record) (c : CarAddress) (w : Checked Change) → OnYes Held (andThen w (λ (x : Change). yes (changed o (Matching a) rs c x)))
 held-change o a rs c (no n) = tt
@@ -55,7 +58,7 @@ held-match o l rs c run (yes x) = none-freed rs
 held-state : (o : Configuration) (st : State) (rs : List Record) (c : CarAddress) (m : Request) → HeldIn st rs → OnYes Held (stateRule o st rs c m)
 unfolding stateRule
 held-state o Unmatched rs c m h = tt
-held-state o (Matching a) rs c (forRecord m) h = held-change o a rs c (changeRule c m a (freePlaces rs) (mine c rs))
+held-state o (Matching a) rs c (forRecord m) h = held-change o a rs c (changeRule c m a (freePlaces rs) (firstResult (o .exempt) rs) (mine c rs))
 held-state o (Matching a) rs c (matchReq run) h = held-match o _ rs c run (matchRule run (mine c rs))
 held-state o (Joining l d k) rs c (forRecord m) h = tt
 held-state o (Joining l d k) rs c (matchReq run) h = on-check Held (sameCar c d && sameRun run k) 11 (yes (confirmed o (Joining l d k) rs c run)) (λ e. h)
@@ -76,23 +79,30 @@ unfolding joiningDone
 held-joining true l c run rs h = h
 held-joining false l c run rs h = h
 
-held-tick : (o : Configuration) (e : ℕ) (st : State) (rs : List Record) → HeldIn st rs → Held (tickDone o e st rs)
+held-tick : (o : Configuration) (b : Bool) (e : ℕ) (st : State) (rs : List Record) → HeldIn st rs → Held (tickDone o b e st rs)
 unfolding tickDone
-held-tick o e Unmatched rs h = h
-held-tick o e (Matching a) rs h = held-admission (a - e) (noneHeld (map (tickRecord e) rs)) (map (tickRecord e) rs) (allReports o e rs) refl
-held-tick o e (Joining l c run) rs h = held-joining (leb l e) (l - e) c run rs h
-held-tick o e Matched rs h = h
+held-tick o b e Unmatched rs h = h
+held-tick o b e (Matching a) rs h = held-admission (a - e) (noneHeld (map (tickRecord b e) rs)) (map (tickRecord b e) rs) (allFrames o b e rs) refl
+held-tick o b e (Joining l c run) rs h = held-joining (leb l e) (l - e) c run rs h
+held-tick o b e Matched rs h = h
 
-held-elapsed : (o : Configuration) (i : Inner) (w : Checked ℕ) → HeldIn (i .state) (i .records) → OnYes Held (andThen w (λ (e : ℕ). yes (tickDone o e (i .state) (i .records))))
-held-elapsed o i (no n) h = tt
-held-elapsed o i (yes e) h = held-tick o e (i .state) (i .records) h
+held-elapsed : (o : Configuration) (b : Bool) (i : Inner) (w : Checked ℕ) → HeldIn (i .state) (i .records) → OnYes Held (andThen w (λ (e : ℕ). yes (tickDone o b e (i .state) (i .records))))
+held-elapsed o b i (no n) h = tt
+held-elapsed o b i (yes e) h = held-tick o b e (i .state) (i .records) h
 
-held-pilot : (was is : Bool) (i : Inner) → HeldIn (i .state) (i .records) → Held (pilotDone was is i)
+-- no record held, none held after a change of each
+held-each : (g : Record → Record) → Keeping g → (st : State) (rs : List Record) → HeldIn st rs → HeldIn st (map g rs)
+held-each g k Unmatched rs h = none-each g k rs h
+held-each g k (Matching a) rs h = tt
+held-each g k (Joining l c run) rs h = none-each g k rs h
+held-each g k Matched rs h = none-each g k rs h
+
+held-pilot : (was is : Bool) (w : Turn) (i : Inner) → HeldIn (i .state) (i .records) → Held (pilotDone was is w i)
 unfolding pilotDone
-held-pilot false true i h = tt
-held-pilot true false i h = none-freed (i .records)
-held-pilot false false i h = none-freed (i .records)
-held-pilot true true i h = h
+held-pilot false true w i h = tt
+held-pilot true false w i h = none-freed (i .records)
+held-pilot false false w i h = none-freed (i .records)
+held-pilot true true w i h = held-each (toggledRecord w) (turn-keeping w) (i .state) (i .records) h
 
 held-link : (st : State) (rs : List Record) → HeldIn st rs → OnYes Held (linkRule st rs)
 unfolding linkRule
@@ -104,8 +114,8 @@ held-link Matched rs h = tt
 held-rule : (o : Shared) (i : Inner) (x : Call) → HeldIn (i .state) (i .records) → OnYes Held (rule o i x)
 unfolding rule
 held-rule o i (frame s room) h = held-frame (o .config) i (admitted (o .config) room (received s)) h
-held-rule o i (tick t room) h = held-elapsed (o .config) i (tickElapsed o t room) h
-held-rule o i (pilot p t) h = on-check Held (o .config .good) 16 (yes (pilotDone (plugged (o .pilot)) (plugged p) i)) (λ g. held-pilot (plugged (o .pilot)) (plugged p) i h)
+held-rule o i (tick t room) h = held-elapsed (o .config) (isB (o .pilot)) i (tickElapsed o t room) h
+held-rule o i (pilot p t) h = on-check Held (o .config .good) 16 (yes (pilotDone (plugged (o .pilot)) (plugged p) (turn (o .pilot) p) i)) (λ g. held-pilot (plugged (o .pilot)) (plugged p) (turn (o .pilot) p) i h)
 held-rule o i terminate h = on-check Held (o .config .good) 16 (yes (ended i)) (λ g. none-freed (i .records))
 held-rule o i linkUp h = on-check Held (o .config .good) 16 (linkRule (i .state) (i .records)) (λ g. held-link (i .state) (i .records) h)
 
@@ -119,38 +129,38 @@ unfolding stateRule
 unmatched-frame o rs (no n) = tt
 unmatched-frame o rs (yes y) = tt
 
-unmatched-elapsed : (o : Configuration) (rs : List Record) (w : Checked ℕ) → OnYes Stays (andThen w (λ (e : ℕ). yes (tickDone o e Unmatched rs)))
+unmatched-elapsed : (o : Configuration) (b : Bool) (rs : List Record) (w : Checked ℕ) → OnYes Stays (andThen w (λ (e : ℕ). yes (tickDone o b e Unmatched rs)))
 unfolding tickDone
-unmatched-elapsed o rs (no n) = tt
-unmatched-elapsed o rs (yes e) = refl
+unmatched-elapsed o b rs (no n) = tt
+unmatched-elapsed o b rs (yes e) = refl
 
-unmatched-pilot : (g was is : Bool) (q : Pilot) (t : ℕ) (o : Shared) (rs : List Record) → plugged q ≡ is → plugged (cond g (takesPilot q t o) o .pilot) ≡ false
-    → OnYes Stays (check g 16 (yes (pilotDone was is (record { state = Unmatched; records = rs }))))
+unmatched-pilot : (g was is : Bool) (w : Turn) (q : Pilot) (t : ℕ) (o : Shared) (rs : List Record) → plugged q ≡ is → plugged (cond g (takesPilot q t o) o .pilot) ≡ false
+    → OnYes Stays (check g 16 (yes (pilotDone was is w (record { state = Unmatched; records = rs }))))
 unfolding pilotDone takesPilot
-unmatched-pilot false was is q t o rs e p = tt
-unmatched-pilot true true true q t o rs e p = refl
-unmatched-pilot true false true q t o rs e p = clash (plugged q) e p
-unmatched-pilot true true false q t o rs e p = refl
-unmatched-pilot true false false q t o rs e p = refl
+unmatched-pilot false was is w q t o rs e p = tt
+unmatched-pilot true true true w q t o rs e p = refl
+unmatched-pilot true false true w q t o rs e p = clash (plugged q) e p
+unmatched-pilot true true false w q t o rs e p = refl
+unmatched-pilot true false false w q t o rs e p = refl
 
 -- every call but a plug-in leaves it so
 unmatched-rule : (o : Shared) (rs : List Record) (x : Call) → plugged (sharedStep o x .pilot) ≡ false → OnYes Stays (rule o (record { state = Unmatched; records = rs }) x)
 unfolding rule linkRule sharedStep
 unmatched-rule o rs (frame s room) p = unmatched-frame (o .config) rs (admitted (o .config) room (received s))
-unmatched-rule o rs (tick t room) p = unmatched-elapsed (o .config) rs (tickElapsed o t room)
-unmatched-rule o rs (pilot q t) p = unmatched-pilot (o .config .good) (plugged (o .pilot)) (plugged q) q t o rs refl p
+unmatched-rule o rs (tick t room) p = unmatched-elapsed (o .config) (isB (o .pilot)) rs (tickElapsed o t room)
+unmatched-rule o rs (pilot q t) p = unmatched-pilot (o .config .good) (plugged (o .pilot)) (plugged q) (turn (o .pilot) q) q t o rs refl p
 unmatched-rule o rs terminate p = on-check Stays (o .config .good) 16 (yes (ended (record { state = Unmatched; records = rs }))) (λ g. refl)
 unmatched-rule o rs linkUp p = on-check Stays (o .config .good) 16 (no 8) (λ g. tt)
 
 -- a pilot loss makes it so
-loss-pilot : (g was is : Bool) (q : Pilot) (t : ℕ) (o : Shared) (i : Inner) → plugged q ≡ is → plugged (cond g (takesPilot q t o) o .pilot) ≡ false → (plugged (o .pilot) ≡ false → i .state ≡ Unmatched)
-    → next i (check g 16 (yes (pilotDone was is i))) .state ≡ Unmatched
+loss-pilot : (g was is : Bool) (w : Turn) (q : Pilot) (t : ℕ) (o : Shared) (i : Inner) → plugged q ≡ is → plugged (cond g (takesPilot q t o) o .pilot) ≡ false → (plugged (o .pilot) ≡ false → i .state ≡ Unmatched)
+    → next i (check g 16 (yes (pilotDone was is w i))) .state ≡ Unmatched
 unfolding pilotDone takesPilot
-loss-pilot false was is q t o i e p h = h p
-loss-pilot true true true q t o i e p h = clash (plugged q) e p
-loss-pilot true false true q t o i e p h = clash (plugged q) e p
-loss-pilot true true false q t o i e p h = refl
-loss-pilot true false false q t o i e p h = refl
+loss-pilot false was is w q t o i e p h = h p
+loss-pilot true true true w q t o i e p h = clash (plugged q) e p
+loss-pilot true false true w q t o i e p h = clash (plugged q) e p
+loss-pilot true true false w q t o i e p h = refl
+loss-pilot true false false w q t o i e p h = refl
 
 on-next : (i : Inner) (w : Checked Done) → i .state ≡ Unmatched → OnYes Stays w → next i w .state ≡ Unmatched
 on-next i (no n) e h = e
@@ -168,18 +178,9 @@ unplugged-next : (o : Shared) (i : Inner) (x : Call) → (plugged (o .pilot) ≡
 unfolding rule sharedStep
 unplugged-next o i (frame s room) h p = stays-unmatched o i (frame s room) p (h p)
 unplugged-next o i (tick t room) h p = stays-unmatched o i (tick t room) p (h (ap plugged (sym (same-pilot (tickElapsed o t room) t o)) ∙ p))
-unplugged-next o i (pilot q t) h p = loss-pilot (o .config .good) (plugged (o .pilot)) (plugged q) q t o i refl p h
+unplugged-next o i (pilot q t) h p = loss-pilot (o .config .good) (plugged (o .pilot)) (plugged q) (turn (o .pilot) q) q t o i refl p h
 unplugged-next o i terminate h p = stays-unmatched o i terminate p (h p)
 unplugged-next o i linkUp h p = stays-unmatched o i linkUp p (h p)
-
--- a bad configuration refuses everything with 16
-pub bad-refuses : (o : Shared) (i : Inner) (x : Call) → o .config .good ≡ false → rule o i x ≡ no 16
-unfolding rule admitted tickTime
-bad-refuses o i (frame s room) g = rw g
-bad-refuses o i (tick t room) g = rw g
-bad-refuses o i (pilot p t) g = rw g
-bad-refuses o i terminate g = rw g
-bad-refuses o i linkUp g = rw g
 
 -- ---- every station
 
@@ -192,15 +193,18 @@ unfolding step
 step-reaches s x h = record {
   one = one-next (shared s) (inner s) x (h .one);
   held = held-next (inner s) (rule (shared s) (inner s) x) (h .held) (held-rule (shared s) (inner s) x (h .held));
+  validating = one-validates (shared s) (inner s) x (h .validating);
   unplugged = unplugged-next (shared s) (inner s) x (h .unplugged);
   bad = λ g.
       let b : s .config .good ≡ false = ap (λ (o : Configuration). o .good) (sym (config-same (shared s) x)) ∙ g in
       ap (λ (w : Checked Done). next (inner s) w .state) (bad-refuses (shared s) (inner s) x b) ∙ h .bad b;
 }
 
-configured-reachable : (a : StationAddress) (m : ModemAddress) (nid : Nid) (nmk : Nmk) → Reachable (configured a m nid nmk)
+configured-reachable : (a : StationAddress) (m : ModemAddress) (nid : Nid) (nmk : Nmk) (exempt : Bool) → Reachable (configured a m nid nmk exempt)
 unfolding configured
-configured-reachable a m nid nmk = record { one = λ c. one-record a m nid nmk [] c; held = mine-none _ (λ c. mine-free c recordCount); unplugged = λ p. refl; bad = λ g. refl }
+configured-reachable a m nid nmk exempt =
+    let h : noneHeld (replicate recordCount freeRecord) ≡ true = mine-none _ (λ c. mine-free c recordCount) in
+    record { one = λ c. one-record a m nid nmk exempt [] c; held = h; validating = omega (arith, free-busy (replicate recordCount freeRecord) h); unplugged = λ p. refl; bad = λ g. refl }
 
-pub reachable : (address : StationAddress) (modem : ModemAddress) (nid : Nid) (nmk : Nmk) (xs : List Call) → Reachable (after (configured address modem nid nmk) xs)
-reachable a m nid nmk xs = after-all Reachable step-reaches (configured a m nid nmk) xs (configured-reachable a m nid nmk)
+pub reachable : (address : StationAddress) (modem : ModemAddress) (nid : Nid) (nmk : Nmk) (exempt : Bool) (xs : List Call) → Reachable (after (configured address modem nid nmk exempt) xs)
+reachable a m nid nmk exempt xs = after-all Reachable step-reaches (configured a m nid nmk exempt) xs (configured-reachable a m nid nmk exempt)

@@ -1,26 +1,29 @@
 -- What is true of every station that calls can reach: its records stay as many, a held record's car is a unicast one, and no car holds two.
 use Prim.Native.Nat.{ℕ, _≤_}
 use mathlib.Core.Path.{_≡_, refl, _∙_}
-use mathlib.Core.Bool.{true}
+use mathlib.Core.Bool.{Bool, true}
 use mathlib.Core.List.{List, [], _∷_, map}
 use native.Mathlib.Omega.{arith}
 use lib.ListN.{length, length-map}
 use Rattle.messages.specs.declared.CarAddress.{CarAddress}
 use Rattle.messages.specs.Table.{isUnicast}
 use Rattle.messages.specs.Reading.{Checked, no, yes}
+use Rattle.rules.specs.declared.Phase.{Phase}
 use Rattle.rules.specs.declared.Record.{Record}
 use Rattle.rules.specs.declared.Station.{Station}
+use Rattle.rules.specs.declared.Turn.{Turn}
 use Rattle.ends.specs.Lists.{All}
 use Rattle.rules.specs.Calls.{Call}
 use Rattle.ends.specs.Outcomes.{next}
 use Rattle.rules.specs.Stations.{Shared, Inner, shared, inner}
-use Rattle.rules.specs.Records.{sameCar, isHeld, holds, mine, freePlaces, owned, freed, update, insert}
+use Rattle.rules.specs.Records.{sameCar, isHeld, holds, mine, freePlaces, owned, freed, update, insert, inPhase}
+use Rattle.rules.specs.Validation.{firstResult, toggledPhase, toggledRecord}
 use Rattle.rules.specs.Frames.{Place, ownPlace, freePlace, Change, changeRule, put}
 use Rattle.rules.specs.Ticks.{Ticked, nowFree, stillHeld, tickPhase, recordOf, tickRecord}
 use Rattle.rules.specs.Rules.{rule, step, after}
 use Rattle.ends.proofs.Logic.{split, clash, OnYes}
 use Rattle.ends.proofs.ListLaws.{only-parts, all-map}
-use Rattle.rules.proofs.RecordLaws.{same-eq, owned-car, freed-free, Ready, ownThen, mine-put, mine-put-other, length-put, mine-freed, mine-tick}
+use Rattle.rules.proofs.RecordLaws.{same-eq, owned-car, freed-free, Ready, ownThen, mine-put, mine-put-other, length-put, mine-freed, Keeping, mine-map, tick-keeping, turn-keeping}
 use Rattle.rules.proofs.RuleLaws.{change-ready}
 use Rattle.rules.proofs.ReplyLaws.{Unicast}
 use Rattle.rules.proofs.Always.{always, AnyRequest, meets-any, after-all}
@@ -53,12 +56,20 @@ unicast-freed r h = clash (isHeld (freed r)) h (freed-free r)
 
 unicast-of : (r : Record) (x : Ticked) → isUnicast (r .car .0) ≡ true → Unicast (recordOf r x)
 unfolding recordOf
-unicast-of r nowFree u = unicast-freed r
+unicast-of r (nowFree ts) u = unicast-freed r
 unicast-of r (stillHeld n ts) u = unicast-owned (r .car) n u
 
-pub unicast-tick : (e : ℕ) (r : Record) → Unicast r → Unicast (tickRecord e r)
+pub unicast-tick : (b : Bool) (e : ℕ) (r : Record) → Unicast r → Unicast (tickRecord b e r)
 unfolding tickRecord
-unicast-tick e r u = split (isHeld r) (λ g. rw g (unicast-of r (tickPhase e r (r .phase)) (u g))) (λ g. rw g u)
+unicast-tick b e r u = split (isHeld r) (λ g. rw g (unicast-of r (tickPhase b e r (r .phase)) (u g))) (λ g. rw g u)
+
+unicast-phase : (p : Phase) (r : Record) → isUnicast (r .car .0) ≡ true → Unicast (inPhase p r)
+unfolding inPhase
+unicast-phase p r u h = u
+
+pub unicast-turn : (w : Turn) (r : Record) → Unicast r → Unicast (toggledRecord w r)
+unfolding toggledRecord
+unicast-turn w r u = split (isHeld r) (λ g. rw g (unicast-phase (toggledPhase w (r .phase)) r (u g))) (λ g. rw g u)
 
 unicast-put : (c : CarAddress) → isUnicast (c .0) ≡ true → (rs : List Record) → All Unicast rs → (w : Checked Change) → OnYes (λ (x : Change). All Unicast (put c (x .place) (x .kept) rs)) w
 unicast-put c u rs h (no n) = tt
@@ -66,8 +77,9 @@ unicast-put c u rs h (yes x) = all-put Unicast c (x .place) (x .kept) (unicast-o
 
 pub unicast-next : (o : Shared) (i : Inner) (x : Call) → All Unicast (i .records) → All Unicast (next i (rule o i x) .records)
 unicast-next o i x = always (All Unicast) AnyRequest
-    (λ c u m f a rs h. unicast-put c u rs h (changeRule c m a (freePlaces rs) (mine c rs)))
-    (λ e rs h. all-map Unicast (tickRecord e) (unicast-tick e) rs h)
+    (λ c u m f a x rs h. unicast-put c u rs h (changeRule c m a (freePlaces rs) (firstResult x rs) (mine c rs)))
+    (λ b e rs h. all-map Unicast (tickRecord b e) (unicast-tick b e) rs h)
+    (λ w rs h. all-map Unicast (toggledRecord w) (unicast-turn w) rs h)
     (λ rs h. all-map Unicast freed (λ r g. unicast-freed r) rs h)
     o i x (meets-any (o .config) x)
 
@@ -83,8 +95,9 @@ length-of n c rs h (yes x) = length-put c (x .kept) (x .place) rs ∙ h
 
 length-next : (n : ℕ) (o : Shared) (i : Inner) (x : Call) → length (i .records) ≡ n → length (next i (rule o i x) .records) ≡ n
 length-next n o i x = always (λ (rs : List Record). length rs ≡ n) AnyRequest
-    (λ c u m f a rs h. length-of n c rs h (changeRule c m a (freePlaces rs) (mine c rs)))
-    (λ e rs h. length-map rs (tickRecord e) ∙ h)
+    (λ c u m f a x rs h. length-of n c rs h (changeRule c m a (freePlaces rs) (firstResult x rs) (mine c rs)))
+    (λ b e rs h. length-map rs (tickRecord b e) ∙ h)
+    (λ w rs h. length-map rs (toggledRecord w) ∙ h)
     (λ rs h. length-map rs freed ∙ h)
     o i x (meets-any (o .config) x)
 
@@ -111,10 +124,15 @@ one-put c rs h (yes x) w = λ d. split (sameCar d c)
 only-shorter : (c : CarAddress) (rs : List Record) → length (mine c rs) ≤ length rs
 only-shorter c rs = omega (arith, only-parts (holds c) rs)
 
+-- a change of each record that gives it to no other car
+one-map : (g : Record → Record) → Keeping g → (rs : List Record) → OneEach rs → OneEach (map g rs)
+one-map g k rs h c = rw (mine-map g k c rs) (omega (arith, h c, only-shorter c (map g (mine c rs)), length-map (mine c rs) g))
+
 pub one-next : (o : Shared) (i : Inner) (x : Call) → OneEach (i .records) → OneEach (next i (rule o i x) .records)
 one-next o i x = always OneEach AnyRequest
-    (λ c u m f a rs h. one-put c rs h (changeRule c m a (freePlaces rs) (mine c rs)) (change-ready c m a (freePlaces rs) (mine c rs)))
-    (λ e rs h c. rw (mine-tick c e rs) (omega (arith, h c, only-shorter c (map (tickRecord e) (mine c rs)), length-map (mine c rs) (tickRecord e))))
+    (λ c u m f a x rs h. one-put c rs h (changeRule c m a (freePlaces rs) (firstResult x rs) (mine c rs)) (change-ready c m a (freePlaces rs) (firstResult x rs) (mine c rs)))
+    (λ b e. one-map (tickRecord b e) (tick-keeping b e))
+    (λ w. one-map (toggledRecord w) (turn-keeping w))
     (λ rs h c. rw (mine-freed c rs) (omega arith))
     o i x (meets-any (o .config) x)
 

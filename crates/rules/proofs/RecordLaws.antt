@@ -1,16 +1,19 @@
 -- Laws of the records: whose a record is, and what each car's own are after each change of the list.
 use Prim.Native.Nat.{ℕ, suc, _+_, _<_, _≤_}
 use mathlib.Core.Path.{_≡_, refl, sym, _∙_, ap}
-use mathlib.Core.Bool.{true, false, cond, _&&_}
+use mathlib.Core.Bool.{Bool, true, false, cond, _&&_}
 use mathlib.Core.List.{List, [], _∷_, _++_, map}
 use native.Mathlib.Omega.{arith}
 use lib.Dec.{eqb}
 use lib.ListN.{length}
 use borrow.Author.Tests.{eqb-true, eq-eqb}
 use Rattle.messages.specs.declared.CarAddress.{CarAddress}
+use Rattle.rules.specs.declared.Phase.{Phase}
 use Rattle.rules.specs.declared.Record.{Record}
+use Rattle.rules.specs.declared.Turn.{Turn}
 use Rattle.ends.specs.Lists.{only, Permuted}
-use Rattle.rules.specs.Records.{sameCar, isHeld, holds, mine, freePlaces, noneHeld, owned, freed, update, insert}
+use Rattle.rules.specs.Records.{sameCar, isHeld, holds, mine, freePlaces, noneHeld, owned, freed, update, insert, inPhase}
+use Rattle.rules.specs.Validation.{toggledPhase, toggledRecord}
 use Rattle.rules.specs.Frames.{Place, ownPlace, freePlace, put}
 use Rattle.rules.specs.Ticks.{Ticked, nowFree, stillHeld, tickPhase, recordOf, tickRecord}
 use Rattle.ends.proofs.Logic.{split, clash, no-cons}
@@ -177,34 +180,47 @@ pub ready-takes : (p : Place) (free : ℕ) (own : List Record) → Ready p free 
 ready-takes ownPlace free own w = omega arith
 ready-takes freePlace free own w = w .1
 
--- ---- all records freed, or a tick
+-- ---- all records freed, or each changed
 
 pub mine-freed : (c : CarAddress) (rs : List Record) → mine c (map freed rs) ≡ []
 unfolding only
 mine-freed c [] = refl
 mine-freed c (r ∷ rs) = rw (holds-free c (freed r) (freed-free r)) (mine-freed c rs)
 
+-- what a change of each record may not do: give it to another car
+abbrev pub Keeping : (Record → Record) → Type 0
+Keeping g = (c : CarAddress) (r : Record) → holds c r ≡ false → holds c (g r) ≡ false
+
+module _ (g : Record → Record) (k : Keeping g) where
+  pub mine-map : (c : CarAddress) (rs : List Record) → mine c (map g rs) ≡ mine c (map g (mine c rs))
+  unfolding only
+  mine-map c [] = refl
+  mine-map c (r ∷ rs) = split (holds c r)
+      (λ h. rw h (ap (λ q. cond (holds c (g r)) (g r ∷ q) q) (mine-map c rs)))
+      (λ h. rw (h, k c r h) (mine-map c rs))
+
+  pub same-map : (c : CarAddress) (rs qs : List Record) → mine c rs ≡ mine c qs → mine c (map g rs) ≡ mine c (map g qs)
+  same-map c rs qs o = mine-map c rs ∙ ap (λ q. mine c (map g q)) o ∙ sym (mine-map c qs)
+
+  pub none-map : (c : CarAddress) (rs : List Record) → mine c rs ≡ [] → mine c (map g rs) ≡ []
+  none-map c rs o = mine-map c rs ∙ ap (λ q. mine c (map g q)) o ∙ only-none (holds c)
+
 tick-no : (c : CarAddress) (r : Record) (x : Ticked) → sameCar c (r .car) ≡ false → holds c (recordOf r x) ≡ false
 unfolding recordOf
-tick-no c r nowFree h = holds-free c (freed r) (freed-free r)
+tick-no c r (nowFree ts) h = holds-free c (freed r) (freed-free r)
 tick-no c r (stillHeld n ts) h = owned-other (r .car) c n h
 
-tick-other : (c : CarAddress) (e : ℕ) (r : Record) → holds c r ≡ false → holds c (tickRecord e r) ≡ false
+pub tick-keeping : (b : Bool) (e : ℕ) → Keeping (tickRecord b e)
 unfolding tickRecord
-tick-other c e r h = split (isHeld r) (λ g. rw g (tick-no c r (tickPhase e r (r .phase)) (not-same c r g h))) (λ g. rw g h)
+tick-keeping b e c r h = split (isHeld r) (λ g. rw g (tick-no c r (tickPhase b e r (r .phase)) (not-same c r g h))) (λ g. rw g h)
 
-pub mine-tick : (c : CarAddress) (e : ℕ) (rs : List Record) → mine c (map (tickRecord e) rs) ≡ mine c (map (tickRecord e) (mine c rs))
-unfolding only
-mine-tick c e [] = refl
-mine-tick c e (r ∷ rs) = split (holds c r)
-    (λ g. rw g (ap (λ q. cond (holds c (tickRecord e r)) (tickRecord e r ∷ q) q) (mine-tick c e rs)))
-    (λ g. rw (g, tick-other c e r g) (mine-tick c e rs))
+phase-holds : (c : CarAddress) (p : Phase) (r : Record) → holds c (inPhase p r) ≡ holds c r
+unfolding holds isHeld inPhase
+phase-holds c p r = refl
 
-pub same-tick : (c : CarAddress) (e : ℕ) (rs qs : List Record) → mine c rs ≡ mine c qs → mine c (map (tickRecord e) rs) ≡ mine c (map (tickRecord e) qs)
-same-tick c e rs qs o = mine-tick c e rs ∙ ap (λ q. mine c (map (tickRecord e) q)) o ∙ sym (mine-tick c e qs)
-
-pub none-tick : (c : CarAddress) (e : ℕ) (rs : List Record) → mine c rs ≡ [] → mine c (map (tickRecord e) rs) ≡ []
-none-tick c e rs o = mine-tick c e rs ∙ ap (λ q. mine c (map (tickRecord e) q)) o ∙ only-none (holds c)
+pub turn-keeping : (w : Turn) → Keeping (toggledRecord w)
+unfolding toggledRecord
+turn-keeping w c r h = split (isHeld r) (λ g. rw g (phase-holds c (toggledPhase w (r .phase)) r ∙ h)) (λ g. rw g h)
 
 -- ---- held and free records
 
@@ -251,3 +267,9 @@ mine-none rs o = same-none rs [] o
 
 pub free-all : (rs : List Record) → noneHeld rs ≡ true → freePlaces rs ≡ length rs
 free-all rs h = omega (arith, only-parts isHeld rs, eqb-true (length (only isHeld rs)) 0 h)
+
+pub none-freed : (rs : List Record) → noneHeld (map freed rs) ≡ true
+none-freed rs = mine-none (map freed rs) (λ c. mine-freed c rs)
+
+pub none-each : (g : Record → Record) → Keeping g → (rs : List Record) → noneHeld rs ≡ true → noneHeld (map g rs) ≡ true
+none-each g k rs h = mine-none (map g rs) (λ c. none-map g k c rs (none-mine c rs h))

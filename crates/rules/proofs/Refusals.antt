@@ -1,4 +1,4 @@
--- "Each refusal changes neither station nor output."
+-- "Each refusal changes neither station nor output"; a bad configuration refuses everything.
 use Prim.Native.Nat.{ℕ}
 use mathlib.Core.Path.{_≡_, refl, ap, _∙_}
 use mathlib.Core.Bool.{Bool, true, false, cond}
@@ -11,6 +11,9 @@ use Rattle.ends.specs.Lists.{joins}
 use Rattle.rules.specs.Calls.{Call, frame, tick, pilot, terminate, linkUp}
 use Rattle.ends.specs.Outcomes.{Outcome, framesOf, joined, andThen, next, outcomeOf}
 use Rattle.rules.specs.Stations.{Shared, Inner, shared, inner, build, Done}
+use Rattle.ends.specs.Clock.{tickTime}
+use Rattle.rules.specs.Events.{isB}
+use Rattle.rules.specs.Frames.{admitted}
 use Rattle.rules.specs.Ticks.{tickElapsed, tickDone}
 use Rattle.rules.specs.Rules.{rule, takesReading, sharedStep, step, outcome}
 
@@ -21,7 +24,7 @@ same-inner : (i : Inner) (w : Checked Done) (n : ℕ) → outcomeOf w ≡ no n �
 same-inner i (no k) n e = refl
 same-inner i (yes d) n e = yes-no (d .sent) n e
 
-same-reading : (o : Shared) (i : Inner) (t : ℕ) (w : Checked ℕ) (n : ℕ) → outcomeOf (andThen w (λ (e : ℕ). yes (tickDone (o .config) e (i .state) (i .records)))) ≡ no n → takesReading w t o ≡ o
+same-reading : (o : Shared) (i : Inner) (t : ℕ) (w : Checked ℕ) (n : ℕ) → outcomeOf (andThen w (λ (e : ℕ). yes (tickDone (o .config) (isB (o .pilot)) e (i .state) (i .records)))) ≡ no n → takesReading w t o ≡ o
 unfolding takesReading
 same-reading o i t (no k) n e = refl
 same-reading o i t (yes x) n e = yes-no _ n e
@@ -47,3 +50,12 @@ refused-station s x n e =
 pub refused-output : (s : Station) (x : Call) (n : ℕ) (out : List ℕ) → outcome s x ≡ no n → splice 0 (joined (framesOf (outcome s x))) out ≡ out
 unfolding splice joins
 refused-output s x n out e = ap (λ (u : Outcome). splice 0 (joined (framesOf u)) out) e
+
+-- a bad configuration refuses everything with 16
+pub bad-refuses : (o : Shared) (i : Inner) (x : Call) → o .config .good ≡ false → rule o i x ≡ no 16
+unfolding rule admitted tickTime
+bad-refuses o i (frame s room) g = rw g
+bad-refuses o i (tick t room) g = rw g
+bad-refuses o i (pilot p t) g = rw g
+bad-refuses o i terminate g = rw g
+bad-refuses o i linkUp g = rw g

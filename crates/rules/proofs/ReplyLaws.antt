@@ -1,8 +1,8 @@
 -- Laws of replies: a frame to a car has its address as destination, so the replies to a car are those made for it.
 use Prim.Native.Nat.{ℕ}
-use mathlib.Core.Path.{_≡_, refl, _∙_, ap}
-use mathlib.Core.Bool.{true, false}
-use mathlib.Core.List.{List, [], _∷_}
+use mathlib.Core.Path.{_≡_, refl, _∙_, ap, ap₂}
+use mathlib.Core.Bool.{Bool, true, false}
+use mathlib.Core.List.{List, [], _∷_, _++_}
 use lib.Dec.{eqb}
 use Rattle.messages.specs.declared.CarAddress.{CarAddress}
 use Rattle.octets.specs.Octets.{value}
@@ -13,8 +13,8 @@ use Rattle.rules.specs.declared.Configuration.{Configuration}
 use Rattle.rules.specs.declared.Record.{Record}
 use Rattle.ends.specs.Lists.{only, All, joins}
 use Rattle.rules.specs.Records.{sameCar, isHeld, holds, mine}
-use Rattle.rules.specs.Replies.{Reply, parmCnf, matchCnf, report, messageTo, frameTo, framesTo}
-use Rattle.rules.specs.Ticks.{tickPhase, repliesOf, tickReports, allReports}
+use Rattle.rules.specs.Replies.{Reply, parmCnf, matchCnf, report, confirmation, isReport, isConfirmation, messageTo, frameTo, framesTo}
+use Rattle.rules.specs.Ticks.{tickPhase, repliesOf, tickFrames, framesOfAll, allFrames}
 use Rattle.rules.specs.Demand3.{isTo}
 use Rattle.ends.proofs.Logic.{split}
 use Rattle.ends.proofs.ListLaws.{only-append}
@@ -26,6 +26,7 @@ unfolding frameTo
 reply-to o c (parmCnf run) h = frame-destination (messageTo o c (parmCnf run)) (unicast-lt (c .0) h)
 reply-to o c (matchCnf run) h = frame-destination (messageTo o c (matchCnf run)) (unicast-lt (c .0) h)
 reply-to o c (report run n vs) h = frame-destination (messageTo o c (report run n vs)) (unicast-lt (c .0) h)
+reply-to o c (confirmation k x) h = frame-destination (messageTo o c (confirmation k x)) (unicast-lt (c .0) h)
 
 to-same : (o : Configuration) (c d : CarAddress) (t : Reply) → isUnicast (d .0) ≡ true → isTo c (frameTo o d t) ≡ sameCar d c
 unfolding isTo sameCar
@@ -47,28 +48,32 @@ sent-other o c d (t ∷ ts) f h = rw (to-same o c d t f ∙ same-swap c d h) (se
 abbrev pub Unicast : Record → Type 0
 Unicast r = isHeld r ≡ true → isUnicast (r .car .0) ≡ true
 
-module _ (o : Configuration) (c : CarAddress) (e : ℕ) where
-  reports-own : (r : Record) → Unicast r → holds c r ≡ true → only (isTo c) (tickReports o e r) ≡ tickReports o e r
-  unfolding tickReports
-  reports-own r f h =
-      let p : c ≡ r .car = same-eq c (r .car) (holds-same c r h) in
-      rw (holds-held c r h) (rw p (sent-own o (r .car) (repliesOf (tickPhase e r (r .phase))) (f (holds-held c r h))))
+module _ (p : Reply → Bool) (o : Configuration) (c : CarAddress) (b : Bool) (e : ℕ) where
+  frames-own : (r : Record) → Unicast r → holds c r ≡ true → only (isTo c) (tickFrames p o b e r) ≡ tickFrames p o b e r
+  unfolding tickFrames
+  frames-own r f h =
+      let q : c ≡ r .car = same-eq c (r .car) (holds-same c r h) in
+      rw (holds-held c r h) (rw q (sent-own o (r .car) (only p (repliesOf (tickPhase b e r (r .phase)))) (f (holds-held c r h))))
 
-  reports-other : (r : Record) → Unicast r → holds c r ≡ false → only (isTo c) (tickReports o e r) ≡ []
-  unfolding tickReports only
-  reports-other r f h = split (isHeld r)
-      (λ g. rw g (sent-other o c (r .car) (repliesOf (tickPhase e r (r .phase))) (f g) (not-same c r g h)))
+  frames-other : (r : Record) → Unicast r → holds c r ≡ false → only (isTo c) (tickFrames p o b e r) ≡ []
+  unfolding tickFrames only
+  frames-other r f h = split (isHeld r)
+      (λ g. rw g (sent-other o c (r .car) (only p (repliesOf (tickPhase b e r (r .phase)))) (f g) (not-same c r g h)))
       (λ g. rw g)
 
-  -- a tick's reports to car c are those of its own record
-  pub sent-tick : (rs : List Record) → All Unicast rs → only (isTo c) (allReports o e rs) ≡ allReports o e (mine c rs)
+  sent-sort : (rs : List Record) → All Unicast rs → only (isTo c) (framesOfAll p o b e rs) ≡ framesOfAll p o b e (mine c rs)
   unfolding only joins
-  sent-tick [] f = refl
-  sent-tick (r ∷ rs) f = only-append (isTo c) (tickReports o e r) (allReports o e rs) ∙ split (holds c r)
-      (λ g. rw (g, reports-own r (f .0) g, sent-tick rs (f .1)))
-      (λ g. rw (g, reports-other r (f .0) g) (sent-tick rs (f .1)))
+  sent-sort [] f = refl
+  sent-sort (r ∷ rs) f = only-append (isTo c) (tickFrames p o b e r) (framesOfAll p o b e rs) ∙ split (holds c r)
+      (λ g. rw (g, frames-own r (f .0) g, sent-sort rs (f .1)))
+      (λ g. rw (g, frames-other r (f .0) g) (sent-sort rs (f .1)))
 
--- a record that is not held reports nothing
-pub reports-free : (o : Configuration) (e : ℕ) (r : Record) → isHeld r ≡ false → tickReports o e r ≡ []
-unfolding tickReports
-reports-free o e r h = rw h
+-- a tick's frames to car c are those of its own record
+pub sent-tick : (o : Configuration) (c : CarAddress) (b : Bool) (e : ℕ) (rs : List Record) → All Unicast rs → only (isTo c) (allFrames o b e rs) ≡ allFrames o b e (mine c rs)
+unfolding allFrames
+sent-tick o c b e rs f = only-append (isTo c) (framesOfAll isReport o b e rs) (framesOfAll isConfirmation o b e rs) ∙ ap₂ _++_ (sent-sort isReport o c b e rs f) (sent-sort isConfirmation o c b e rs f)
+
+-- a record that is not held sends nothing
+pub frames-free : (p : Reply → Bool) (o : Configuration) (b : Bool) (e : ℕ) (r : Record) → isHeld r ≡ false → tickFrames p o b e r ≡ []
+unfolding tickFrames
+frames-free p o b e r h = rw h

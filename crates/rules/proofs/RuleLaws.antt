@@ -1,4 +1,4 @@
--- Laws of what concerns a car's record: where its record goes, and what the number of free places decides.
+-- Laws of what concerns a car's record: where its record goes, and what the number of free places and a first validate request's result decide.
 use Prim.Native.Nat.{ℕ, _≤_}
 use mathlib.Core.Path.{_≡_, refl}
 use mathlib.Core.Bool.{Bool, true, false, _&&_}
@@ -8,10 +8,13 @@ use borrow.Author.Tests.{ltb-true, lt-ltb}
 use Rattle.messages.specs.declared.CarAddress.{CarAddress}
 use Rattle.messages.specs.declared.RunId.{RunId}
 use Rattle.messages.specs.Reading.{Checked, no, yes, check}
+use Rattle.rules.specs.declared.Phase.{Phase}
+use Rattle.rules.specs.declared.Phase.the-variants as phases
 use Rattle.rules.specs.declared.Record.{Record}
 use Rattle.rules.specs.Records.{sameRun}
-use Rattle.rules.specs.Received.{RecordMessage, parmReq, start, sound, profile, rsp}
-use Rattle.rules.specs.Frames.{Kept, freePlace, Change, putBack, startRule, soundRule, profileRule, rspRule, atOwn, atRun, requested, parmRule, changeRule, matchRule}
+use Rattle.rules.specs.Replies.{Reply, confirmation}
+use Rattle.rules.specs.Received.{RecordMessage, parmReq, start, sound, profile, rsp, validateFirst, validateSecond}
+use Rattle.rules.specs.Frames.{Kept, freePlace, Change, putBack, startRule, soundRule, profileRule, rspRule, firstRule, secondRule, atOwn, atRun, requested, parmRule, changeRule, matchRule}
 use Rattle.ends.proofs.Logic.{clash, OnYes, on-check}
 use Rattle.rules.proofs.RecordLaws.{Ready, takes}
 
@@ -25,7 +28,7 @@ module _ {A : Type 0} (P : A → Type 0) where
   on-run run own f h = on-own own (λ (r : Record). check (sameRun run (r .run)) 11 (f r)) (λ r rs e. on-check P (sameRun run (r .run)) 11 (f r) (λ s. h r rs e))
 
 -- and of the change that puts the record back
-pub on-back : (P : Record → Type 0) (w : Checked Kept) → OnYes (λ (k : Kept). P (k .kept)) w → OnYes (λ (x : Change). P (x .kept)) (putBack w)
+pub on-back : (P : Record → List Reply → Type 0) (w : Checked Kept) → OnYes (λ (k : Kept). P (k .kept) (k .replies)) w → OnYes (λ (x : Change). P (x .kept) (x .replies)) (putBack w)
 on-back P (no n) h = tt
 on-back P (yes k) h = h
 
@@ -43,15 +46,17 @@ unfolding parmRule requested
 parm-ready c run a free (r ∷ own) = tt
 parm-ready c run a free [] = on-check (IsReady free []) (ltb 0 a) 9 _ (λ g. on-check (IsReady free []) (ltb 0 free) 10 _ (λ h. (refl, ltb-true 0 free h)))
 
-pub change-ready : (c : CarAddress) (m : RecordMessage) (a free : ℕ) (own : List Record) → OnYes (λ (x : Change). Ready (x .place) free own) (changeRule c m a free own)
+pub change-ready : (c : CarAddress) (m : RecordMessage) (a free result : ℕ) (own : List Record) → OnYes (λ (x : Change). Ready (x .place) free own) (changeRule c m a free result own)
 unfolding changeRule
-change-ready c (parmReq run) a free own = parm-ready c run a free own
-change-ready c (start run) a free own = back-ready free own (atRun run own (λ (r : Record). startRule r (r .phase)))
-change-ready c (sound run k) a free own = back-ready free own (atRun run own (λ (r : Record). soundRule k r (r .phase)))
-change-ready c (profile vs) a free own = back-ready free own (atOwn own (λ (r : Record). profileRule vs r (r .phase)))
-change-ready c (rsp run) a free own = back-ready free own (atRun run own (λ (r : Record). rspRule r (r .phase)))
+change-ready c (parmReq run) a free result own = parm-ready c run a free own
+change-ready c (start run) a free result own = back-ready free own (atRun run own (λ (r : Record). startRule r (r .phase)))
+change-ready c (sound run k) a free result own = back-ready free own (atRun run own (λ (r : Record). soundRule k r (r .phase)))
+change-ready c (profile vs) a free result own = back-ready free own (atOwn own (λ (r : Record). profileRule vs r (r .phase)))
+change-ready c (rsp run) a free result own = back-ready free own (atRun run own (λ (r : Record). rspRule r (r .phase)))
+change-ready c validateFirst a free result own = back-ready free own (atOwn own (λ (r : Record). firstRule result r (r .phase)))
+change-ready c (validateSecond timer) a free result own = back-ready free own (atOwn own (λ (r : Record). secondRule timer r (r .phase)))
 
--- ---- the number of free places decides only 10
+-- ---- the number of free places decides only 10, the result only what a first validate request is answered
 
 abbrev pub isAsk : RecordMessage → Bool
 isAsk (parmReq run) = true
@@ -59,6 +64,17 @@ isAsk (start run) = false
 isAsk (sound run k) = false
 isAsk (profile vs) = false
 isAsk (rsp run) = false
+isAsk validateFirst = false
+isAsk (validateSecond timer) = false
+
+abbrev pub isValidate : RecordMessage → Bool
+isValidate (parmReq run) = false
+isValidate (start run) = false
+isValidate (sound run k) = false
+isValidate (profile vs) = false
+isValidate (rsp run) = false
+isValidate validateFirst = true
+isValidate (validateSecond timer) = true
 
 abbrev pub refusedTen : Checked Change → Bool
 refusedTen (no n) = eqb n 10
@@ -79,24 +95,48 @@ parm-same c run a free free′ [] t k = go (ltb 0 a) (ltb 0 free) t k
     go true false t k = clash true refl t
     go true true t k = rw (lt-ltb 0 free′ k)
 
-pub change-same : (c : CarAddress) (m : RecordMessage) (a free free′ : ℕ) (own : List Record)
-    → isAsk m && refusedTen (changeRule c m a free own) ≡ false → OnYes (λ (x : Change). takes (x .place) ≤ free′) (changeRule c m a free own)
-    → changeRule c m a free own ≡ changeRule c m a free′ own
+-- where the change confirms the one result, the other is the same
+abbrev pub SameResult : RecordMessage → ℕ → ℕ → Change → Type 0
+SameResult m result result′ x = isValidate m ≡ true → x .replies ≡ confirmation 0 result ∷ [] → result ≡ result′
+
+first-same : (result result′ : ℕ) (r : Record) (p : Phase) → OnYes (SameResult validateFirst result result′) (putBack (firstRule result r p)) → putBack (firstRule result r p) ≡ putBack (firstRule result′ r p)
+unfolding firstRule
+first-same result result′ r (phases.Asked t) v = refl
+first-same result result′ r (phases.Sounding t) v = refl
+first-same result result′ r (phases.Reported t n) v = refl
+first-same result result′ r (phases.Awaiting t) v = rw (← v refl refl)
+first-same result result′ r (phases.Ready t) v = refl
+first-same result result′ r (phases.Counting t n b) v = refl
+first-same result result′ r (phases.Success t) v = refl
+
+validate-same : (result result′ : ℕ) (own : List Record) → OnYes (SameResult validateFirst result result′) (putBack (atOwn own (λ (r : Record). firstRule result r (r .phase))))
+    → putBack (atOwn own (λ (r : Record). firstRule result r (r .phase))) ≡ putBack (atOwn own (λ (r : Record). firstRule result′ r (r .phase)))
+validate-same result result′ [] v = refl
+validate-same result result′ (r ∷ own) v = first-same result result′ r (r .phase) v
+
+pub change-same : (c : CarAddress) (m : RecordMessage) (a free free′ result result′ : ℕ) (own : List Record)
+    → isAsk m && refusedTen (changeRule c m a free result own) ≡ false → OnYes (λ (x : Change). takes (x .place) ≤ free′) (changeRule c m a free result own)
+    → OnYes (SameResult m result result′) (changeRule c m a free result own)
+    → changeRule c m a free result own ≡ changeRule c m a free′ result′ own
 unfolding changeRule
-change-same c (parmReq run) a free free′ own t k = parm-same c run a free free′ own t k
-change-same c (start run) a free free′ own t k = refl
-change-same c (sound run n) a free free′ own t k = refl
-change-same c (profile vs) a free free′ own t k = refl
-change-same c (rsp run) a free free′ own t k = refl
+change-same c (parmReq run) a free free′ result result′ own t k v = parm-same c run a free free′ own t k
+change-same c (start run) a free free′ result result′ own t k v = refl
+change-same c (sound run n) a free free′ result result′ own t k v = refl
+change-same c (profile vs) a free free′ result result′ own t k v = refl
+change-same c (rsp run) a free free′ result result′ own t k v = refl
+change-same c validateFirst a free free′ result result′ own t k v = validate-same result result′ own v
+change-same c (validateSecond timer) a free free′ result result′ own t k v = refl
 
 -- admission closed, and no record: whatever comes is refused
-pub change-closed : (c : CarAddress) (m : RecordMessage) (free : ℕ) → (n : ℕ) × (changeRule c m 0 free [] ≡ no n)
+pub change-closed : (c : CarAddress) (m : RecordMessage) (free result : ℕ) → (n : ℕ) × (changeRule c m 0 free result [] ≡ no n)
 unfolding changeRule parmRule
-change-closed c (parmReq run) free = (9, refl)
-change-closed c (start run) free = (11, refl)
-change-closed c (sound run k) free = (11, refl)
-change-closed c (profile vs) free = (11, refl)
-change-closed c (rsp run) free = (11, refl)
+change-closed c (parmReq run) free result = (9, refl)
+change-closed c (start run) free result = (11, refl)
+change-closed c (sound run k) free result = (11, refl)
+change-closed c (profile vs) free result = (11, refl)
+change-closed c (rsp run) free result = (11, refl)
+change-closed c validateFirst free result = (11, refl)
+change-closed c (validateSecond timer) free result = (11, refl)
 
 pub match-none : (run : RunId) → matchRule run [] ≡ no 11
 unfolding matchRule

@@ -1,14 +1,14 @@
 -- Demand 3, part two: two frames of a row that name different cars change places.
 use Prim.Native.Nat.{ℕ, _+_, _≤_}
 use mathlib.Core.Path.{_≡_, refl, sym, _∙_, ap, subst}
-use mathlib.Core.Bool.{Bool, true, false, not, _&&_}
+use mathlib.Core.Bool.{Bool, true, false, not, _&&_, and-false}
 use mathlib.Core.List.{List, map}
 use native.Mathlib.Omega.{arith}
 use lib.ListN.{length}
 use borrow.Author.Tests.{not-true}
 use Rattle.messages.specs.declared.CarAddress.{CarAddress}
 use Rattle.messages.specs.declared.RunId.{RunId}
-use Rattle.messages.specs.Table.{slacMatchReq}
+use Rattle.messages.specs.Table.{validateReq, slacMatchReq}
 use Rattle.messages.specs.Reading.{Checked, no, yes, check, readRules}
 use Rattle.messages.proofs.LayoutLaws.{and-left, and-right}
 use Rattle.rules.specs.declared.Configuration.{Configuration}
@@ -21,14 +21,15 @@ use Rattle.rules.specs.Calls.{Call, frame, tick, pilot, terminate, linkU
 use Rattle.ends.specs.Outcomes.{Outcome, andThen, next, outcomeOf}
 use Rattle.rules.specs.Stations.{Inner, inner, Done}
 use Rattle.rules.specs.Records.{sameCar, sameRun, mine, freePlaces, freed}
-use Rattle.rules.specs.Received.{Request, forRecord, matchReq, Received, received}
+use Rattle.rules.specs.Received.{RecordMessage, Request, forRecord, matchReq, Received, received}
+use Rattle.rules.specs.Validation.{firstResult}
 use Rattle.rules.specs.Frames.{Change, changeRule, matchRule, put, changed, confirmed, stateRule, admitted, frameRule}
 use Rattle.rules.specs.Rules.{rule, sharedStep, step, outcome}
-use Rattle.rules.specs.Demand3.{named, isCar, accepted, isTen, isKind, isFrame, moves}
+use Rattle.rules.specs.Demand3.{named, isCar, accepted, isTen, isKind, isAccepted, isFrame, moves}
 use Rattle.ends.proofs.Logic.{split, clash, OnYes}
 use Rattle.rules.proofs.RecordLaws.{same-refl, same-eq, same-swap, Ready, takes, ready-takes, same-put, mine-put-other, length-put, free-put}
-use Rattle.rules.proofs.RuleLaws.{isAsk, refusedTen, change-ready, change-same}
-use Rattle.rules.proofs.ReceivedLaws.{isMatch, ReadAs, read-as}
+use Rattle.rules.proofs.RuleLaws.{isAsk, isValidate, refusedTen, SameResult, change-ready, change-same}
+use Rattle.rules.proofs.ReceivedLaws.{isMatch, validatesIn, ReadAs, read-as}
 use Rattle.rules.proofs.NearFrames.{ten-change}
 use Rattle.rules.proofs.Places.{Places, Moved, Like}
 
@@ -115,26 +116,36 @@ unfolding stateRule accepted
 again-effect o l d k c run rs false e t = refuses o (Joining l d k) c (matchReq run) rs 11 (λ qs q. rw e)
 again-effect o l d k c run rs true e t = clash true refl t
 
-effect : (o : Configuration) (st : State) (c : CarAddress) (m : Request) (rs : List Record) → isMatch m && accepted (outcomeOf (stateRule o st rs c m)) ≡ false → isTen (outcomeOf (stateRule o st rs c m)) ≡ false
-    → Effect o st c m rs
+-- what a row asks of a request and its outcome: no accepted match or validate request, and not refused with 10
+abbrev calm : Request → Outcome → Type 0
+calm m u = (isMatch m && accepted u ≡ false) × ((validatesIn m && accepted u ≡ false) × (isTen u ≡ false))
+
+-- a refused validate request is refused whatever the result
+refused-same : (o : Configuration) (st : State) (c : CarAddress) (m : RecordMessage) (rs : List Record) (result result′ : ℕ) (w : Checked Change) → isValidate m && accepted (outcomeOf (doing o st c w rs)) ≡ false
+    → OnYes (SameResult m result result′) w
+unfolding accepted
+refused-same o st c m rs result result′ (no n) v = tt
+refused-same o st c m rs result result′ (yes x) v = λ p e. clash (isValidate m && true) (rw p) v
+
+effect : (o : Configuration) (st : State) (c : CarAddress) (m : Request) (rs : List Record) → calm m (outcomeOf (stateRule o st rs c m)) → Effect o st c m rs
 unfolding stateRule
-effect o Unmatched c m rs t u = refuses o Unmatched c m rs 8 (λ qs e. refl)
-effect o (Matching a) c (forRecord m) rs t u =
-    let w : Checked Change = changeRule c m a (freePlaces rs) (mine c rs) in
-    let f : isAsk m && refusedTen w ≡ false = rw (sym (ten-change o (Matching a) rs c w) ∙ u) (and-false (isAsk m)) in
+effect o Unmatched c m rs h = refuses o Unmatched c m rs 8 (λ qs e. refl)
+effect o (Matching a) c (forRecord m) rs h =
+    let x : ℕ = firstResult (o .exempt) rs in
+    let w : Checked Change = changeRule c m a (freePlaces rs) x (mine c rs) in
+    let f : isAsk m && refusedTen w ≡ false = rw (sym (ten-change o (Matching a) rs c w) ∙ h .1 .1) (and-false (isAsk m)) in
     record {
       change = w;
-      ready = change-ready c m a (freePlaces rs) (mine c rs);
-      same = λ qs e k. rw (e, ← change-same c m a (freePlaces rs) (freePlaces qs) (mine c rs) f (needed-on w (freePlaces qs) k));
+      ready = change-ready c m a (freePlaces rs) x (mine c rs);
+      same = λ qs e k. rw (
+        e,
+        ← change-same c m a (freePlaces rs) (freePlaces qs) x (firstResult (o .exempt) qs) (mine c rs) f (needed-on w (freePlaces qs) k) (refused-same o (Matching a) c m rs x (firstResult (o .exempt) qs) w (h .1 .0)),
+      );
     }
-  where
-    and-false : (b : Bool) → b && false ≡ false
-    and-false true = refl
-    and-false false = refl
-effect o (Matching a) c (matchReq run) rs t u = match-effect o a c run rs (matchRule run (mine c rs)) refl t
-effect o (Joining l d k) c (forRecord m) rs t u = refuses o (Joining l d k) c (forRecord m) rs 8 (λ qs e. refl)
-effect o (Joining l d k) c (matchReq run) rs t u = again-effect o l d k c run rs (sameCar c d && sameRun run k) refl t
-effect o Matched c m rs t u = refuses o Matched c m rs 8 (λ qs e. refl)
+effect o (Matching a) c (matchReq run) rs h = match-effect o a c run rs (matchRule run (mine c rs)) refl (h .0)
+effect o (Joining l d k) c (forRecord m) rs h = refuses o (Joining l d k) c (forRecord m) rs 8 (λ qs e. refl)
+effect o (Joining l d k) c (matchReq run) rs h = again-effect o l d k c run rs (sameCar c d && sameRun run k) refl (h .0)
+effect o Matched c m rs h = refuses o Matched c m rs 8 (λ qs e. refl)
 
 -- ---- two frames
 
@@ -155,22 +166,19 @@ outcome-doing : (o : Configuration) (st : State) (c : CarAddress) (w : Checked C
 outcome-doing o st c (no n) rs qs = refl
 outcome-doing o st c (yes x) rs qs = refl
 
-abbrev calm : Request → Outcome → Type 0
-calm m u = (isMatch m && accepted u ≡ false) × (isTen u ≡ false)
-
 swap-state : (o : Configuration) (st : State) (rs : List Record) (c d : CarAddress) (m l : Request) → sameCar c d ≡ false
     → calm m (outcomeOf (stateRule o st rs c m)) → calm l (outcomeOf (at o d l (next (record { state = st; records = rs }) (stateRule o st rs c m))))
     → Crossed (record { state = st; records = rs }) (stateRule o st rs c m) (at o d l (next (record { state = st; records = rs }) (stateRule o st rs c m)))
     (stateRule o st rs d l) (at o c m (next (record { state = st; records = rs }) (stateRule o st rs d l)))
 swap-state o st rs c d m l f h₁ h₂ =
     let i : Inner = record { state = st; records = rs } in
-    let E : Effect o st c m rs = effect o st c m rs (h₁ .0) (h₁ .1) in
+    let E : Effect o st c m rs = effect o st c m rs h₁ in
     let w : Checked Change = E .change in
     let a : needed w ≤ freePlaces rs = ready-needed c w rs (E .ready) in
     let e₁ : stateRule o st rs c m ≡ doing o st c w rs = E .same rs refl a in
     let n₁ : next i (stateRule o st rs c m) ≡ record { state = st; records = then c w rs } = ap (next i) e₁ ∙ next-doing o st c w rs in
     let h₃ : calm l (outcomeOf (stateRule o st (then c w rs) d l)) = subst (λ (q : Inner). calm l (outcomeOf (at o d l q))) n₁ h₂ in
-    let D : Effect o st d l (then c w rs) = effect o st d l (then c w rs) (h₃ .0) (h₃ .1) in
+    let D : Effect o st d l (then c w rs) = effect o st d l (then c w rs) h₃ in
     let v : Checked Change = D .change in
     let b : needed v ≤ freePlaces (then c w rs) = ready-needed d v (then c w rs) (D .ready) in
     let p : freePlaces (then c w rs) + needed w ≡ freePlaces rs = then-free c w rs a in
@@ -210,12 +218,15 @@ apart-received s s′ room room′ f (yes y) (yes z) t t′ =
     rw (t′ .car) at g
 
 calm-received : (s : List ℕ) (room : ℕ) (u : Outcome) (w : Checked Received) → OnYes (ReadAs (readRules s)) w → moves (record { call = frame s room; gave = u }) ≡ true → OnYes (λ (y : Received). calm (y .request) u) w
-unfolding moves isFrame isKind
+unfolding moves isFrame isAccepted isKind
 calm-received s room u (no n) t h = tt
 calm-received s room u (yes y) t h =
-    let a : not (isKind slacMatchReq (frame s room) && accepted u) ≡ true = and-left _ _ h in
-    let b : isKind slacMatchReq (frame s room) && accepted u ≡ false = not-true _ a in
-    (rw (t .matching) at b, not-true _ (and-right (not (isKind slacMatchReq (frame s room) && accepted u)) _ h))
+    let a : Bool = isKind slacMatchReq (frame s room) && accepted u in
+    let b : Bool = isKind validateReq (frame s room) && accepted u in
+    let ab : not a && not b ≡ true = and-left (not a && not b) (not (isTen u)) h in
+    let p : a ≡ false = not-true a (and-left (not a) (not b) ab) in
+    let q : b ≡ false = not-true b (and-right (not a) (not b) ab) in
+    (rw (t .matching) at p, (rw (t .validating) at q, not-true _ (and-right (not a && not b) (not (isTen u)) h)))
 
 -- ---- two calls of a row
 

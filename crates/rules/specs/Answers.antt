@@ -1,6 +1,7 @@
 -- Document 01's reading of the answers that the code gives, and what each public function promises.
 use Prim.Native.Nat.{ℕ}
 use mathlib.Core.Path.{_≡_}
+use mathlib.Core.Bool.{Bool}
 use mathlib.Core.List.{List}
 use Rattle.messages.specs.declared.ModemAddress.{ModemAddress}
 use Rattle.messages.specs.declared.Nid.{Nid}
@@ -33,7 +34,7 @@ pub record Answers (s : Station) (x : Call) (entry exit : List ℕ) (r : Stepped
   pub kept : Invariant (r .station)
 
 -- the whole promise of configuring
-pub record Configures (address : StationAddress) (modem : ModemAddress) (nid : Nid) (nmk : Nmk) (r : Configured) : Type 0 where
-  pub station : r .station ≡ configured address modem nid nmk
+pub record Configures (address : StationAddress) (modem : ModemAddress) (nid : Nid) (nmk : Nmk) (exempt : Bool) (r : Configured) : Type 0 where
+  pub station : r .station ≡ configured address modem nid nmk exempt
   pub answer : answerOf (r .answer) ≡ summary (configuring address modem nid)
   pub kept : Invariant (r .station)

@@ -1,19 +1,19 @@
--- The proved table of the bench cases P1 to P12: octets, readings and states, and what must come out.
+-- The proved table of the bench cases P1 to P12 and of validation's V1 to V10: octets, readings and states, and what must come out.
 use Prim.Native.Nat.{ℕ, zero, suc, _+_, _-_}
 use mathlib.Core.Path.{_≡_}
-use mathlib.Core.Bool.{true}
+use mathlib.Core.Bool.{Bool, true, false}
 use mathlib.Core.List.{List, [], _∷_, _++_, map}
 use lib.ListN.{length, replicate, take}
 use Rattle.messages.specs.Table.{Message, slacParmReq, broadcast, groupCount}
 use Rattle.messages.specs.Reading.{Checked, no, yes, readRules}
-use Rattle.ends.specs.declared.Indication.the-variants.{Nothing}
+use Rattle.ends.specs.declared.Indication.the-variants.{Nothing, NoLink}
 use Rattle.rules.specs.declared.Phase.{Phase}
-use Rattle.rules.specs.declared.Phase.the-variants.{Asked, Sounding, Reported}
+use Rattle.rules.specs.declared.Phase.the-variants.{Asked, Sounding, Reported, Awaiting, Ready, Counting, Success}
 use Rattle.rules.specs.declared.Pilot.{Pilot}
-use Rattle.rules.specs.declared.Pilot.the-variants.{A, B}
+use Rattle.rules.specs.declared.Pilot.the-variants.{A, B, C, D}
 use Rattle.rules.specs.declared.Record.{Record}
 use Rattle.rules.specs.declared.State.{State}
-use Rattle.rules.specs.declared.State.the-variants.{Unmatched, Matching}
+use Rattle.rules.specs.declared.State.the-variants.{Unmatched, Matching, Joining}
 use Rattle.rules.specs.declared.Station.{Station}
 use Rattle.rules.specs.Constants.{recordCount, leastOutput}
 use Rattle.ends.specs.FirstFrames.{request, p1, p2}
@@ -56,15 +56,19 @@ pub record Row : Type 0 where
 
 -- ---- the station and the cars of the table
 
--- a station 02:00:00:00:00:AA with the modem 02:00:00:00:00:BB, and records of which the first are given
-abbrev station : State → Pilot → ℕ → List Record → Station
-station st p t rs = record {
-  config = record { good = true; address = record { 0 = 0x0200000000AA }; modem = record { 0 = 0x0200000000BB }; nid = record { 0 = 5 }; nmk = record { 0 = 1; 1 = 2 } };
+-- a station 02:00:00:00:00:AA with the modem 02:00:00:00:00:BB, by whether validation is not required, and records of which the first are given
+abbrev stationThat : Bool → State → Pilot → ℕ → List Record → Station
+stationThat exempt st p t rs = record {
+  config = record { good = true; address = record { 0 = 0x0200000000AA }; modem = record { 0 = 0x0200000000BB }; nid = record { 0 = 5 }; nmk = record { 0 = 1; 1 = 2 }; exempt = exempt };
   state = st;
   pilot = p;
   clock = t;
   records = rs ++ replicate (recordCount - length rs) freeRecord;
 }
+
+-- the same, where validation is required
+abbrev station : State → Pilot → ℕ → List Record → Station
+station = stationThat false
 
 -- a held record of the car 02:00:00:00:00:n in the run 01..08, so many profiles counted, each group's sum the same
 abbrev held : ℕ → Phase → ℕ → ℕ → ℕ → Record
@@ -94,6 +98,41 @@ reportTo used v =
     ∷ 0x00 ∷ 0x00 ∷ 0x02 ∷ 0x00 ∷ 0x00 ∷ 0x00 ∷ 0x00 ∷ 0x01 ∷ 0x01 ∷ 0x02 ∷ 0x03 ∷ 0x04 ∷ 0x05 ∷ 0x06 ∷ 0x07 ∷ 0x08
     ∷ replicate 34 0x00 ++ (used ∷ groupCount ∷ replicate groupCount v)
 
+-- the head of a frame from the car 02:00:00:00:00:n to us, and from us to it, with the type's low octet
+abbrev toUs : ℕ → ℕ → List ℕ
+toUs n type = 0x02 ∷ 0x00 ∷ 0x00 ∷ 0x00 ∷ 0x00 ∷ 0xAA ∷ 0x02 ∷ 0x00 ∷ 0x00 ∷ 0x00 ∷ 0x00 ∷ n ∷ 0x88 ∷ 0xE1 ∷ 0x01 ∷ type ∷ 0x60 ∷ 0x00 ∷ 0x00 ∷ []
+
+abbrev fromUs : ℕ → ℕ → List ℕ
+fromUs n type = 0x02 ∷ 0x00 ∷ 0x00 ∷ 0x00 ∷ 0x00 ∷ n ∷ 0x02 ∷ 0x00 ∷ 0x00 ∷ 0x00 ∷ 0x00 ∷ 0xAA ∷ 0x88 ∷ 0xE1 ∷ 0x01 ∷ type ∷ 0x60 ∷ 0x00 ∷ 0x00 ∷ []
+
+-- the first VALIDATE.REQ of the car n, and its second with a timer
+abbrev firstOf : ℕ → List ℕ
+firstOf n = toUs n 0x78 ++ (0x00 ∷ 0x00 ∷ 0x01 ∷ [])
+
+abbrev secondOf : ℕ → ℕ → List ℕ
+secondOf n timer =
+    0xFF ∷ 0xFF ∷ 0xFF ∷ 0xFF ∷ 0xFF ∷ 0xFF ∷ 0x02 ∷ 0x00 ∷ 0x00 ∷ 0x00 ∷ 0x00 ∷ n ∷ 0x88 ∷ 0xE1 ∷ 0x01 ∷ 0x78 ∷ 0x60 ∷ 0x00 ∷ 0x00
+    ∷ 0x00 ∷ timer ∷ 0x01 ∷ []
+
+-- VALIDATE.CNF to the car n, in 60 octets: toggles and result
+abbrev cnfTo : ℕ → ℕ → ℕ → List ℕ
+cnfTo n toggles result = fromUs n 0x79 ++ (0x00 ∷ toggles ∷ result ∷ replicate 38 0x00)
+
+-- octets 4-57 of both match messages with the car of P1
+abbrev matchOctets : List ℕ
+matchOctets =
+    replicate 17 0x00 ++ (0x02 ∷ 0x00 ∷ 0x00 ∷ 0x00 ∷ 0x00 ∷ 0x01 ∷ replicate 17 0x00)
+    ++ (0x02 ∷ 0x00 ∷ 0x00 ∷ 0x00 ∷ 0x00 ∷ 0xAA ∷ 0x01 ∷ 0x02 ∷ 0x03 ∷ 0x04 ∷ 0x05 ∷ 0x06 ∷ 0x07 ∷ 0x08 ∷ [])
+
+-- MATCH.REQ of the car of P1, and MATCH.CNF to it
+abbrev matchReq : List ℕ
+matchReq = toUs 1 0x7C ++ (0x00 ∷ 0x00 ∷ 0x3E ∷ 0x00 ∷ matchOctets ++ replicate 8 0x00)
+
+abbrev matchCnf : List ℕ
+matchCnf =
+    fromUs 1 0x7D ++ (0x00 ∷ 0x00 ∷ 0x56 ∷ 0x00 ∷ matchOctets ++ replicate 8 0x00)
+    ++ (0x05 ∷ replicate 7 0x00 ++ (replicate 7 0x00 ++ (0x01 ∷ replicate 7 0x00 ++ (0x02 ∷ []))))
+
 -- ---- the table
 
 -- accepted, with these frames and no indication
@@ -104,7 +143,15 @@ sends fs = yes (record { frames = fs; indication = Nothing })
 abbrev p1Read : Checked Message
 p1Read = yes (record { kind = slacParmReq; dst = broadcast; src = 0x020000000001; values = (0x0102030405060708, tt) })
 
--- P1 to P12
+-- the car of P1 after ten profiles, in a phase
+abbrev heard : Phase → Record
+heard p = held 1 p 0 10 100
+
+-- joined with the car of P1
+abbrev joining : State
+joining = Joining 12000 (record { 0 = 0x020000000001 }) (record { 0 = 0x0102030405060708 })
+
+-- P1 to P12, V1 to V10
 unfoldable pub table : List Row
 table =
     -- P1, P3 to P6: the request whole, and cut to or extended to a length
@@ -149,6 +196,60 @@ table =
     ∷ record {
       asked = running (station (Matching 50000) B 0 (held 1 (Sounding 600) 3 0 0 ∷ [])) (tick 600 leastOutput ∷ []);
       expected = runs (sends [] ∷ []) (Matching 49400) 600 [];
+    }
+    -- V1: first REQ in Awaiting: CNF 01 in 60 octets; a second car's: CNF 03 and its record unchanged
+    ∷ record {
+      asked = running (station (Matching 50000) B 0 (heard (Awaiting 10000) ∷ held 2 (Awaiting 9000) 0 10 100 ∷ [])) (frame (firstOf 1) leastOutput ∷ frame (firstOf 2) leastOutput ∷ []);
+      expected = runs (sends (cnfTo 1 0 1 ∷ []) ∷ sends (cnfTo 2 0 3 ∷ []) ∷ []) (Matching 50000) 0 (heard (Ready 400) ∷ held 2 (Awaiting 9000) 0 10 100 ∷ []);
+    }
+    -- V2: B-C-B twice in a window of 1,000: CNF 02 with 2; MATCH.REQ then accepted, before it 12
+    ∷ record {
+      asked = running (station (Matching 50000) B 0 (heard (Ready 400) ∷ [])) (frame (secondOf 1 9) leastOutput ∷ pilot C 0 ∷ pilot B 0 ∷ pilot C 0 ∷ pilot B 0 ∷ frame matchReq leastOutput ∷ tick 1000 leastOutput ∷ frame matchReq leastOutput ∷ []);
+      expected = runs (sends [] ∷ sends [] ∷ sends [] ∷ sends [] ∷ sends [] ∷ no 12 ∷ sends (cnfTo 1 2 2 ∷ []) ∷ sends (matchCnf ∷ []) ∷ []) joining 1000 [];
+    }
+    -- V3: the pilot at C when the window ends: CNF 03, freed
+    ∷ record {
+      asked = running (station (Matching 50000) B 0 (heard (Ready 400) ∷ [])) (frame (secondOf 1 9) leastOutput ∷ pilot C 0 ∷ tick 1000 leastOutput ∷ []);
+      expected = runs (sends [] ∷ sends [] ∷ sends (cnfTo 1 0 3 ∷ []) ∷ []) (Matching 49000) 1000 [];
+    }
+    -- V4: B-C-D-C-B: CNF 02 with 0
+    ∷ record {
+      asked = running (station (Matching 50000) B 0 (heard (Ready 400) ∷ [])) (frame (secondOf 1 9) leastOutput ∷ pilot C 0 ∷ pilot D 0 ∷ pilot C 0 ∷ pilot B 0 ∷ tick 1000 leastOutput ∷ []);
+      expected = runs (sends [] ∷ sends [] ∷ sends [] ∷ sends [] ∷ sends [] ∷ sends (cnfTo 1 0 2 ∷ []) ∷ []) (Matching 49000) 1000 (heard (Success 10000) ∷ []);
+    }
+    -- V5: no second REQ in 400: freed, nothing sent
+    ∷ record {
+      asked = running (station (Matching 50000) B 0 (heard (Ready 400) ∷ [])) (tick 400 leastOutput ∷ []);
+      expected = runs (sends [] ∷ []) (Matching 49600) 400 [];
+    }
+    -- V6: not required: CNF 04, Awaiting's time unchanged, MATCH.REQ accepted
+    ∷ record {
+      asked = running (stationThat true (Matching 50000) B 0 (heard (Awaiting 9000) ∷ [])) (frame (firstOf 1) leastOutput ∷ []);
+      expected = runs (sends (cnfTo 1 0 4 ∷ []) ∷ []) (Matching 50000) 0 (heard (Awaiting 9000) ∷ []);
+    }
+    ∷ record {
+      asked = running (stationThat true (Matching 50000) B 0 (heard (Awaiting 9000) ∷ [])) (frame (firstOf 1) leastOutput ∷ frame matchReq leastOutput ∷ []);
+      expected = runs (sends (cnfTo 1 0 4 ∷ []) ∷ sends (matchCnf ∷ []) ∷ []) joining 0 [];
+    }
+    -- V7: second REQ at pilot C, then B: CNF 02 with 0
+    ∷ record {
+      asked = running (station (Matching 50000) C 0 (heard (Ready 400) ∷ [])) (frame (secondOf 1 0) leastOutput ∷ pilot B 0 ∷ tick 100 leastOutput ∷ []);
+      expected = runs (sends [] ∷ sends [] ∷ sends (cnfTo 1 0 2 ∷ []) ∷ []) (Matching 49900) 100 (heard (Success 10000) ∷ []);
+    }
+    -- V8: B-C-C-B: 1, and nothing of another car's record
+    ∷ record {
+      asked = running (station (Matching 50000) B 0 (heard (Ready 400) ∷ held 2 (Success 9000) 0 10 100 ∷ [])) (frame (secondOf 1 9) leastOutput ∷ pilot C 0 ∷ pilot C 0 ∷ pilot B 0 ∷ tick 1000 leastOutput ∷ []);
+      expected = runs (sends [] ∷ sends [] ∷ sends [] ∷ sends [] ∷ sends (cnfTo 1 1 2 ∷ []) ∷ []) (Matching 49000) 1000 (heard (Success 10000) ∷ held 2 (Success 8000) 0 10 100 ∷ []);
+    }
+    -- V9: no pilot change: CNF 02 with 0, MATCH.REQ accepted
+    ∷ record {
+      asked = running (station (Matching 50000) B 0 (heard (Ready 400) ∷ [])) (frame (secondOf 1 9) leastOutput ∷ tick 1000 leastOutput ∷ frame matchReq leastOutput ∷ []);
+      expected = runs (sends [] ∷ sends (cnfTo 1 0 2 ∷ []) ∷ sends (matchCnf ∷ []) ∷ []) joining 1000 [];
+    }
+    -- V10: admission closed, the last record fails: CNF 03 and "no link" in one tick
+    ∷ record {
+      asked = running (station (Matching 0) C 0 (heard (Counting 1000 0 false) ∷ [])) (tick 1000 leastOutput ∷ []);
+      expected = runs (yes (record { frames = cnfTo 1 0 3 ∷ []; indication = NoLink }) ∷ []) Unmatched 1000 [];
     }
     ∷ []
 

@@ -23,6 +23,39 @@ reportedTime = responseTime
 abbrev pub awaitingTime : ℕ
 awaitingTime = 10000
 
+-- ready's time: TT_match_sequence, as Asked's
+abbrev pub readyTime : ℕ
+readyTime = askedTime
+
+-- a step of the window: the timer counts steps of 100, from one on
+abbrev pub windowStep : ℕ
+windowStep = 100
+
+-- how many windows there are: the timer is an octet
+abbrev pub windowCount : ℕ
+windowCount = 256
+
+-- success's time: TT_EVSE_match_session, as Awaiting's
+abbrev pub successTime : ℕ
+successTime = awaitingTime
+
+-- the most toggles that a CNF can tell
+abbrev pub mostToggles : ℕ
+mostToggles = 255
+
+-- results that the station sends: "01 ready, 02 success, 03 failure, 04 not required"
+abbrev pub readyResult : ℕ
+readyResult = 1
+
+abbrev pub successResult : ℕ
+successResult = 2
+
+abbrev pub failureResult : ℕ
+failureResult = 3
+
+abbrev pub notRequiredResult : ℕ
+notRequiredResult = 4
+
 -- how many records a station has: C_EVSE_match_parallel
 abbrev pub recordCount : ℕ
 recordCount = 5

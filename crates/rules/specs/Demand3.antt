@@ -1,5 +1,5 @@
 -- Demand 3: cars do not disturb each other. One statement over the rules, in octets.
-use Prim.Native.Nat.{ℕ}
+use Prim.Native.Nat.{ℕ, _+_}
 use mathlib.Core.Path.{_≡_}
 use mathlib.Core.Bool.{Bool, true, false, not, _&&_, _||_}
 use mathlib.Core.List.{List, [], _∷_, _++_}
@@ -7,12 +7,14 @@ use mathlib.Core.Option.{Option, none, some}
 use lib.Dec.{eqb}
 use Rattle.messages.specs.declared.CarAddress.{CarAddress}
 use Rattle.octets.specs.Octets.{value}
-use Rattle.messages.specs.Table.{Kind, slacParmReq, slacMatchReq, typeOf, Message}
+use Rattle.messages.specs.Layout.{size}
+use Rattle.messages.specs.Table.{Kind, slacParmReq, validateReq, slacMatchReq, typeOf, head, Message}
 use Rattle.messages.specs.Reading.{Checked, no, yes, readRules, carOf}
 use Rattle.rules.specs.declared.Station.{Station}
 use Rattle.ends.specs.Lists.{only, All, Permuted}
 use Rattle.rules.specs.Calls.{Call, frame, tick, pilot, terminate, linkUp}
 use Rattle.ends.specs.Outcomes.{Outcome, framesOf}
+use Rattle.rules.specs.Constants.{failureResult}
 use Rattle.rules.specs.Records.{sameCar, mine}
 use Rattle.rules.specs.Events.{plugged}
 use Rattle.rules.specs.Rules.{step, outcome, after}
@@ -56,13 +58,26 @@ unfoldable pub isRead : Kind → Checked Message → Bool
 isRead k (no n) = false
 isRead k (yes m) = eqb (typeOf k) (typeOf (m .kind))
 
--- a frame that reads as this message: "parameter request" is PARM.REQ, "match request" MATCH.REQ
+-- a frame that reads as this message: "parameter request" is PARM.REQ, "validate request" VALIDATE.REQ of either kind, "match request" MATCH.REQ
 unfoldable pub isKind : Kind → Call → Bool
 isKind k (frame s room) = isRead k (readRules s)
 isKind k (tick t room) = false
 isKind k (pilot p t) = false
 isKind k terminate = false
 isKind k linkUp = false
+
+-- such a request, accepted
+unfoldable pub isAccepted : Kind → Call → Outcome → Bool
+isAccepted k x u = isKind k x && accepted u
+
+-- such a request of car c's own, accepted
+unfoldable pub isOwnAccepted : CarAddress → Kind → Call → Outcome → Bool
+isOwnAccepted c k x u = isKind k x && isCar c (named x) && accepted u
+
+-- some of these frames, each a VALIDATE.CNF, has the result 03: it stands in the third octet behind the head
+unfoldable pub anyFailure : List (List ℕ) → Bool
+anyFailure [] = false
+anyFailure (f ∷ fs) = eqb (value f (size head + 2) 1) failureResult || anyFailure fs
 
 -- "a reply to a car: a frame that a call reports with it as destination"
 unfoldable pub isTo : CarAddress → List ℕ → Bool
@@ -96,25 +111,41 @@ isEnd terminate = true
 isEnd linkUp = false
 
 -- the call, with this outcome, ends the comparison for car c: one of these accepted, or a parameter request of c refused with 10
-unfoldable pub ends : CarAddress → Call → Outcome → Bool
-ends c x u = (isEnd x && accepted u) || (isKind slacParmReq x && isCar c (named x) && isTen u)
+unfoldable pub endsFor : CarAddress → Call → Outcome → Bool
+endsFor c x u = (isEnd x && accepted u) || (isKind slacParmReq x && isCar c (named x) && isTen u)
 
--- the calls since a plug-in while the comparison for car c goes on; its own accepted match request is the last
-pub data Lasts (c : CarAddress) : Station → List Call → Type 0 where
-  begun : {s : Station} → Lasts c s []
-  further : {s : Station} {x : Call} {xs : List Call} → ends c x (outcome s x) ≡ false → Lasts c (step s x) xs → Lasts c s (x ∷ xs)
-  matched : {s : Station} {x : Call} → isKind slacMatchReq x && isCar c (named x) && accepted (outcome s x) ≡ true → Lasts c s (x ∷ [])
+-- "it now also names an accepted validate request, of any car and of either kind"
+unfoldable pub endsEarly : CarAddress → Call → Outcome → Bool
+endsEarly c x u = endsFor c x u || isAccepted validateReq x u
+
+-- more than is asked: of the validate requests only one of c's own that is answered 03 ends it
+unfoldable pub ends : CarAddress → Call → Outcome → Bool
+ends c x u = endsFor c x u || (isKind validateReq x && isCar c (named x) && anyFailure (framesOf u))
+
+-- the calls since a plug-in until one that ends the comparison; one that is the last inside may stand behind them
+pub data Lasts (isOver isLast : Call → Outcome → Bool) : Station → List Call → Type 0 where
+  begun : {s : Station} → Lasts isOver isLast s []
+  further : {s : Station} {x : Call} {xs : List Call} → isOver x (outcome s x) ≡ false → Lasts isOver isLast (step s x) xs → Lasts isOver isLast s (x ∷ xs)
+  matched : {s : Station} {x : Call} → isLast x (outcome s x) ≡ true → Lasts isOver isLast s (x ∷ [])
+
+-- the comparison for car c as document 01 asks for it: its own accepted match or validate request is the last call inside
+abbrev pub Shorter : CarAddress → Station → List Call → Type 0
+Shorter c = Lasts (endsEarly c) (λ (x : Call) (u : Outcome). isOwnAccepted c slacMatchReq x u || isOwnAccepted c validateReq x u)
+
+-- the comparison for car c as far as it goes: its own accepted match request is the last call inside
+abbrev pub Longer : CarAddress → Station → List Call → Type 0
+Longer c = Lasts (ends c) (isOwnAccepted c slacMatchReq)
 
 -- two stations, each with its calls: the same replies to car c, and the same record of its own
 pub record SameFor (c : CarAddress) (s : Station) (xs : List Call) (t : Station) (ys : List Call) : Type 0 where
   pub replied : replies c s xs ≡ replies c t ys
   pub own : mine c (after s xs .records) ≡ mine c (after t ys .records)
 
--- calls `before`, a plug-in, calls `since`: without other cars' frames the same since the plug-in
-abbrev pub Undisturbed : Station → CarAddress → List Call → Call → List Call → Type 0
-Undisturbed s₀ c before plug since =
+-- calls `before`, a plug-in, calls `since` that last so long: without other cars' frames the same since the plug-in
+abbrev pub Undisturbed : (CarAddress → Station → List Call → Type 0) → Station → CarAddress → List Call → Call → List Call → Type 0
+Undisturbed Window s₀ c before plug since =
     isPlugIn (after s₀ before) plug ≡ true
-    → Lasts c (step (after s₀ before) plug) since
+    → Window c (step (after s₀ before) plug) since
     → SameFor c (step (after s₀ before) plug) since (step (after s₀ (without c before)) plug) (without c since)
 
 -- ---- part two: the order of different cars' frames in a row makes no difference
@@ -137,9 +168,9 @@ isFrame (pilot p t) = false
 isFrame terminate = false
 isFrame linkUp = false
 
--- what a row is made of: a frame that is no accepted match request and is not refused with 10
+-- what a row is made of: a frame that is no accepted match or validate request and is not refused with 10
 unfoldable pub moves : Event → Bool
-moves e = isFrame (e .call) && not (isKind slacMatchReq (e .call) && accepted (e .gave)) && not (isTen (e .gave))
+moves e = isFrame (e .call) && not (isAccepted slacMatchReq (e .call) (e .gave)) && not (isAccepted validateReq (e .call) (e .gave)) && not (isTen (e .gave))
 
 -- "in a row: with no call but frames between"
 abbrev pub AllMove : List Event → Type 0
@@ -150,17 +181,17 @@ pub record Reordered {A : Type 0} (call : A → Call) (row row′ : List A) : Ty
   pub permuted : Permuted row row′
   pub own-kept : (c : CarAddress) → only (λ (x : A). isCar c (named (call x))) row ≡ only (λ (x : A). isCar c (named (call x))) row′
 
--- the same outcome of two ticks, their reports in any order
-abbrev pub SameReports : Outcome → Outcome → Type 0
-SameReports (no n) (no k) = n ≡ k
-SameReports (no n) (yes y) = ⊥
-SameReports (yes x) (no k) = ⊥
-SameReports (yes x) (yes y) = Permuted (x .frames) (y .frames) × (x .indication ≡ y .indication)
+-- the same outcome of two ticks, their frames in any order
+abbrev pub SameFrames : Outcome → Outcome → Type 0
+SameFrames (no n) (no k) = n ≡ k
+SameFrames (no n) (yes y) = ⊥
+SameFrames (yes x) (no k) = ⊥
+SameFrames (yes x) (yes y) = Permuted (x .frames) (y .frames) × (x .indication ≡ y .indication)
 
--- the same outcome of two calls: a tick's reports in any order
+-- the same outcome of two calls: a tick's frames in any order
 abbrev pub Alike : Call → Outcome → Outcome → Type 0
 Alike (frame s room) u v = u ≡ v
-Alike (tick t room) u v = SameReports u v
+Alike (tick t room) u v = SameFrames u v
 Alike (pilot p t) u v = u ≡ v
 Alike terminate u v = u ≡ v
 Alike linkUp u v = u ≡ v
@@ -189,5 +220,6 @@ OrderFree s₀ first row row′ last =
 
 -- of the station s₀, for every car and every list of calls
 pub record Demand3 (s₀ : Station) : Type 0 where
-  pub undisturbed : (c : CarAddress) (before : List Call) (plug : Call) (since : List Call) → Undisturbed s₀ c before plug since
+  pub undisturbed : (c : CarAddress) (before : List Call) (plug : Call) (since : List Call) → Undisturbed Longer s₀ c before plug since
+  pub undisturbed-shorter : (c : CarAddress) (before : List Call) (plug : Call) (since : List Call) → Undisturbed Shorter s₀ c before plug since
   pub order-free : (first row row′ last : List Call) → OrderFree s₀ first row row′ last

@@ -7,10 +7,12 @@ use Rattle.ends.specs.declared.Indication.the-variants.{Nothing, NoLink, LinkEs
 use Rattle.rules.specs.declared.Pilot.{Pilot}
 use Rattle.rules.specs.declared.Pilot.the-variants.{A, B, C, D, E, F}
 use Rattle.rules.specs.declared.Record.{Record}
+use Rattle.rules.specs.declared.Turn.{Turn}
 use Rattle.rules.specs.declared.State.{State}
 use Rattle.rules.specs.declared.State.the-variants.{Unmatched, Matching, Joining, Matched}
 use Rattle.rules.specs.Constants.{admissionTime}
 use Rattle.rules.specs.Records.{freed}
+use Rattle.rules.specs.Validation.{toggledRecord}
 use Rattle.rules.specs.Stations.{Inner, Done, done}
 
 -- "B, C or D"
@@ -33,12 +35,21 @@ lost Matched = Nothing
 abbrev pub ended : Inner → Done
 ended i = done Unmatched (map freed (i .records)) [] (lost (i .state))
 
--- a pilot change, by whether the pilot was and is at B, C or D
-unfoldable pub pilotDone : Bool → Bool → Inner → Done
-pilotDone false true i = done (Matching admissionTime) (map freed (i .records)) [] Nothing
-pilotDone true false i = ended i
-pilotDone false false i = ended i
-pilotDone true true i = done (i .state) (i .records) [] Nothing
+-- a pilot change, by whether the pilot was and is at B, C or D, and what it means for a toggle
+unfoldable pub pilotDone : Bool → Bool → Turn → Inner → Done
+pilotDone false true w i = done (Matching admissionTime) (map freed (i .records)) [] Nothing
+pilotDone true false w i = ended i
+pilotDone false false w i = ended i
+pilotDone true true w i = done (i .state) (map (toggledRecord w) (i .records)) [] Nothing
+
+-- "the pilot is at B"
+unfoldable pub isB : Pilot → Bool
+isB A = false
+isB B = true
+isB C = false
+isB D = false
+isB E = false
+isB F = false
 
 -- link up: "in Joining, Matched and link established; else 8"
 unfoldable pub linkRule : State → List Record → Checked Done

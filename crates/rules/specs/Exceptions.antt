@@ -5,7 +5,7 @@ use mathlib.Core.Bool.{true, false}
 use mathlib.Core.List.{List, [], _∷_}
 use lib.ListN.{length, replicate}
 use Rattle.messages.specs.declared.CarAddress.{CarAddress}
-use Rattle.messages.specs.Table.{Message, slacParmReq, startAttenCharInd, attenCharRsp, slacMatchReq, attenProfileInd, broadcast, groupCount}
+use Rattle.messages.specs.Table.{Message, slacParmReq, startAttenCharInd, attenCharRsp, validateReq, slacMatchReq, attenProfileInd, broadcast, groupCount}
 use Rattle.messages.specs.Reading.{no}
 use Rattle.messages.specs.Writing as writing
 use Rattle.rules.specs.declared.Pilot.the-variants.{B}
@@ -14,13 +14,14 @@ use Rattle.rules.specs.Constants.{recordCount, leastOutput}
 use Rattle.rules.specs.Calls.{Call, frame, tick, pilot}
 use Rattle.rules.specs.Records.{mine}
 use Rattle.rules.specs.Rules.{configured, step, outcome, after}
-use Rattle.rules.specs.Demand3.{without, accepted, ends, replies, isPlugIn}
+use Rattle.ends.specs.Outcomes.{framesOf}
+use Rattle.rules.specs.Demand3.{without, accepted, anyFailure, ends, replies, isPlugIn}
 
 -- ---- a station, its cars and their frames
 
 -- a well configured station
 abbrev station : Station
-station = configured (record { 0 = 0x0200000000AA }) (record { 0 = 0x0200000000BB }) (record { 0 = 5 }) (record { 0 = 1; 1 = 2 })
+station = configured (record { 0 = 0x0200000000AA }) (record { 0 = 0x0200000000BB }) (record { 0 = 5 }) (record { 0 = 1; 1 = 2 }) false
 
 -- some cars
 abbrev car : ℕ → CarAddress
@@ -30,7 +31,7 @@ car n = record { 0 = 0x020000000000 + n }
 abbrev sent : Message → Call
 sent m = frame (writing.frame m) leastOutput
 
--- PARM.REQ, START, PROFILE, RSP and MATCH.REQ of car n, in run 1
+-- PARM.REQ, START, PROFILE, RSP and MATCH.REQ of car n, in run 1, and its first VALIDATE.REQ
 abbrev request : ℕ → Call
 request n = sent (record { kind = slacParmReq; dst = broadcast; src = car n .0; values = (1, tt) })
 
@@ -45,6 +46,9 @@ response n = sent (record { kind = attenCharRsp; dst = 0x0200000000AA; src = car
 
 abbrev matching : ℕ → Call
 matching n = sent (record { kind = slacMatchReq; dst = 0x0200000000AA; src = car n .0; values = (1, tt) })
+
+abbrev validate : ℕ → Call
+validate n = sent (record { kind = validateReq; dst = 0x0200000000AA; src = car n .0; values = (0, tt) })
 
 -- requests of n other cars
 abbrev others : ℕ → List Call
@@ -69,6 +73,10 @@ full = pilot B 0 ∷ others recordCount
 abbrev match : List Call
 match = pilot B 0 ∷ request 1 ∷ request 2 ∷ start 2 ∷ profile 2 ∷ tick 300 leastOutput ∷ request 1 ∷ tick 600 leastOutput ∷ response 2 ∷ matching 2 ∷ []
 
+-- cars 1 and 2 await, and car 2 is made ready
+abbrev busy : List Call
+busy = pilot B 0 ∷ request 1 ∷ request 2 ∷ start 1 ∷ start 2 ∷ profile 1 ∷ profile 2 ∷ tick 600 leastOutput ∷ response 1 ∷ response 2 ∷ validate 2 ∷ []
+
 -- what comes out
 pub record Exceptions : Type 0 where
   -- the comparison begins and goes on, and car 1 is sent a reply
@@ -85,6 +93,10 @@ pub record Exceptions : Type 0 where
   -- another car's accepted match request frees car 1's record
   pub freed : length (mine (car 1) (after station match .records)) ≡ 0
   pub kept : length (mine (car 1) (after station (without (car 1) match) .records)) ≡ 1
+  -- another car's accepted validate request: car 1's own is then answered 03, and 01 without
+  pub failed : anyFailure (framesOf (outcome (after station busy) (validate 1))) ≡ true
+  pub made-ready : accepted (outcome (after station (without (car 1) busy)) (validate 1)) ≡ true
+  pub not-failed : anyFailure (framesOf (outcome (after station (without (car 1) busy)) (validate 1))) ≡ false
   -- in a row, refused with 10: whoever comes first has the last record
   pub first-asks : outcome (step (after station (pilot B 0 ∷ others (recordCount - 1))) (request 2)) (request 1) ≡ no 10
   pub second-asks : accepted (outcome (after station (pilot B 0 ∷ others (recordCount - 1))) (request 1)) ≡ true

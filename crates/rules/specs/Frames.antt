@@ -1,5 +1,5 @@
 -- Frames: what each message does at its car's record, and the order of a frame's refusals.
-use Prim.Native.Nat.{ℕ, _+_}
+use Prim.Native.Nat.{ℕ, _+_, _*_}
 use mathlib.Core.Bool.{Bool, true, false, not, cond, _&&_}
 use mathlib.Core.List.{List, [], _∷_, map}
 use lib.Dec.{eqb, leb, ltb}
@@ -9,17 +9,18 @@ use Rattle.messages.specs.Reading.{Checked, no, yes, check}
 use Rattle.rules.specs.declared.Configuration.{Configuration}
 use Rattle.ends.specs.declared.Indication.the-variants.{Nothing}
 use Rattle.rules.specs.declared.Phase.{Phase}
-use Rattle.rules.specs.declared.Phase.the-variants.{Asked, Sounding, Reported, Awaiting}
+use Rattle.rules.specs.declared.Phase.the-variants.{Asked, Sounding, Reported, Awaiting, Ready, Counting, Success}
 use Rattle.rules.specs.declared.Record.{Record}
 use Rattle.rules.specs.declared.State.{State}
 use Rattle.rules.specs.declared.State.the-variants.{Unmatched, Matching, Joining, Matched}
 use Rattle.ends.specs.Constants.{joiningTime, retryCount, soundCount}
-use Rattle.rules.specs.Constants.{soundingTime, awaitingTime, leastOutput}
+use Rattle.rules.specs.Constants.{soundingTime, awaitingTime, readyTime, windowStep, readyResult, leastOutput}
 use Rattle.ends.specs.Outcomes.{andThen}
 use Rattle.rules.specs.Records.{sameCar, sameRun, mine, freePlaces, owned, freed, update, insert, fresh, inPhase, reported, withHeard, counted}
 use Rattle.rules.specs.Sounds.{isIn, marked}
-use Rattle.rules.specs.Replies.{Reply, parmCnf, matchCnf, reportOf, framesTo}
-use Rattle.rules.specs.Received.{RecordMessage, parmReq, start, sound, profile, rsp, Request, forRecord, matchReq, Received, isForUs}
+use Rattle.rules.specs.Replies.{Reply, parmCnf, matchCnf, confirmation, reportOf, framesTo}
+use Rattle.rules.specs.Received.{RecordMessage, parmReq, start, sound, profile, rsp, validateFirst, validateSecond, Request, forRecord, matchReq, Received, isForUs}
+use Rattle.rules.specs.Validation.{firstResult}
 use Rattle.rules.specs.Stations.{Inner, Done, done}
 
 -- what a message does at its car's record: the record afterwards, and the replies to the car
@@ -39,6 +40,9 @@ startRule r (Asked t) = keeps (inPhase (Sounding soundingTime) r) []
 startRule r (Sounding t) = keeps r []
 startRule r (Reported t n) = no 12
 startRule r (Awaiting t) = no 12
+startRule r (Ready t) = no 12
+startRule r (Counting t n b) = no 12
+startRule r (Success t) = no 12
 
 -- SOUND in Sounding: "count marked heard"
 unfoldable pub soundRule : ℕ → Record → Phase → Checked Kept
@@ -49,6 +53,9 @@ soundRule k r (Sounding t) =
     (keeps (withHeard (marked k (r .heard)) r) []))
 soundRule k r (Reported t n) = no 12
 soundRule k r (Awaiting t) = no 12
+soundRule k r (Ready t) = no 12
+soundRule k r (Counting t n b) = no 12
+soundRule k r (Success t) = no 12
 
 -- PROFILE in Sounding: "values added, one more counted. At ten: report sent, Reported, 200, two retries."
 unfoldable pub profileRule : List ℕ → Record → Phase → Checked Kept
@@ -59,6 +66,9 @@ profileRule vs r (Sounding t) =
     (keeps (counted vs r) [])
 profileRule vs r (Reported t n) = no 12
 profileRule vs r (Awaiting t) = no 12
+profileRule vs r (Ready t) = no 12
+profileRule vs r (Counting t n b) = no 12
+profileRule vs r (Success t) = no 12
 
 -- RSP in Reported: "Awaiting, 10,000"
 unfoldable pub rspRule : Record → Phase → Checked Kept
@@ -66,13 +76,43 @@ rspRule r (Asked t) = no 12
 rspRule r (Sounding t) = no 12
 rspRule r (Reported t n) = keeps (inPhase (Awaiting awaitingTime) r) []
 rspRule r (Awaiting t) = no 12
+rspRule r (Ready t) = no 12
+rspRule r (Counting t n b) = no 12
+rspRule r (Success t) = no 12
 
--- "in Awaiting"
-unfoldable pub isAwaiting : Phase → Bool
-isAwaiting (Asked t) = false
-isAwaiting (Sounding t) = false
-isAwaiting (Reported t n) = false
-isAwaiting (Awaiting t) = true
+-- the first VALIDATE.REQ's record in Awaiting: "ready, 400" with the result 01, else "the record stays as it is"
+unfoldable pub answered : ℕ → Record → Record
+answered result r = cond (eqb result readyResult) (inPhase (Ready readyTime) r) r
+
+-- the first VALIDATE.REQ, "in Awaiting, else 12": CNF with this result and no toggles
+unfoldable pub firstRule : ℕ → Record → Phase → Checked Kept
+firstRule result r (Asked t) = no 12
+firstRule result r (Sounding t) = no 12
+firstRule result r (Reported t n) = no 12
+firstRule result r (Awaiting t) = keeps (answered result r) (confirmation 0 result ∷ [])
+firstRule result r (Ready t) = no 12
+firstRule result r (Counting t n b) = no 12
+firstRule result r (Success t) = no 12
+
+-- the second VALIDATE.REQ, "in ready, else 12": "counting, 100 * (timer + 1), no toggles, none begun"
+unfoldable pub secondRule : ℕ → Record → Phase → Checked Kept
+secondRule timer r (Asked t) = no 12
+secondRule timer r (Sounding t) = no 12
+secondRule timer r (Reported t n) = no 12
+secondRule timer r (Awaiting t) = no 12
+secondRule timer r (Ready t) = keeps (inPhase (Counting (windowStep * (timer + 1)) 0 false) r) []
+secondRule timer r (Counting t n b) = no 12
+secondRule timer r (Success t) = no 12
+
+-- "MATCH.REQ in success as in Awaiting"
+unfoldable pub mayMatch : Phase → Bool
+mayMatch (Asked t) = false
+mayMatch (Sounding t) = false
+mayMatch (Reported t n) = false
+mayMatch (Awaiting t) = true
+mayMatch (Ready t) = false
+mayMatch (Counting t n b) = false
+mayMatch (Success t) = true
 
 -- ---- at the car's records: 9 and 10, or 11
 
@@ -112,17 +152,19 @@ parmRule c run admission free [] =
     (check (ltb 0 free) 10
     (yes (requested c run freePlace)))
 
--- each message at car c's own records, with admission's time left and the number of free places
-unfoldable pub changeRule : CarAddress → RecordMessage → ℕ → ℕ → List Record → Checked Change
-changeRule c (parmReq run) admission free own = parmRule c run admission free own
-changeRule c (start run) admission free own = putBack (atRun run own (λ (r : Record). startRule r (r .phase)))
-changeRule c (sound run k) admission free own = putBack (atRun run own (λ (r : Record). soundRule k r (r .phase)))
-changeRule c (profile vs) admission free own = putBack (atOwn own (λ (r : Record). profileRule vs r (r .phase)))
-changeRule c (rsp run) admission free own = putBack (atRun run own (λ (r : Record). rspRule r (r .phase)))
+-- each message at car c's own records, with admission's time left, the number of free places, and what a first VALIDATE.REQ is answered
+unfoldable pub changeRule : CarAddress → RecordMessage → ℕ → ℕ → ℕ → List Record → Checked Change
+changeRule c (parmReq run) admission free result own = parmRule c run admission free own
+changeRule c (start run) admission free result own = putBack (atRun run own (λ (r : Record). startRule r (r .phase)))
+changeRule c (sound run k) admission free result own = putBack (atRun run own (λ (r : Record). soundRule k r (r .phase)))
+changeRule c (profile vs) admission free result own = putBack (atOwn own (λ (r : Record). profileRule vs r (r .phase)))
+changeRule c (rsp run) admission free result own = putBack (atRun run own (λ (r : Record). rspRule r (r .phase)))
+changeRule c validateFirst admission free result own = putBack (atOwn own (λ (r : Record). firstRule result r (r .phase)))
+changeRule c (validateSecond timer) admission free result own = putBack (atOwn own (λ (r : Record). secondRule timer r (r .phase)))
 
--- MATCH.REQ "in Awaiting": 11, then 12
+-- MATCH.REQ "in Awaiting" and in success: 11, then 12
 unfoldable pub matchRule : RunId → List Record → Checked (Unit {0})
-matchRule run own = atRun run own (λ (r : Record). check (isAwaiting (r .phase)) 12 (yes tt))
+matchRule run own = atRun run own (λ (r : Record). check (mayMatch (r .phase)) 12 (yes tt))
 
 -- ---- in a state: 8, then these
 
@@ -143,7 +185,7 @@ confirmed o st rs c run = done st rs (framesTo o c (matchCnf run ∷ [])) Nothin
 unfoldable pub stateRule : Configuration → State → List Record → CarAddress → Request → Checked Done
 stateRule o Unmatched rs c m = no 8
 stateRule o (Matching a) rs c (forRecord m) =
-    andThen (changeRule c m a (freePlaces rs) (mine c rs))
+    andThen (changeRule c m a (freePlaces rs) (firstResult (o .exempt) rs) (mine c rs))
     (λ (x : Change). yes (changed o (Matching a) rs c x))
 stateRule o (Matching a) rs c (matchReq run) =
     andThen (matchRule run (mine c rs))

@@ -7,11 +7,11 @@ use Rattle.octets.specs.Octets.{Octets}
 use Rattle.messages.specs.Table.{isUnicast}
 use Rattle.rules.specs.declared.Configuration.{Configuration}
 use Rattle.rules.specs.declared.Phase.{Phase}
-use Rattle.rules.specs.declared.Phase.the-variants.{Asked, Sounding, Reported, Awaiting}
+use Rattle.rules.specs.declared.Phase.the-variants.{Asked, Sounding, Reported, Awaiting, Ready, Counting, Success}
 use Rattle.rules.specs.declared.Record.{Record}
 use Rattle.rules.specs.declared.Station.{Station}
 use Rattle.ends.specs.Constants.{retryCount, soundCount}
-use Rattle.rules.specs.Constants.{askedTime, soundingTime, reportedTime, awaitingTime}
+use Rattle.rules.specs.Constants.{askedTime, soundingTime, reportedTime, awaitingTime, readyTime, windowStep, windowCount, successTime, mostToggles}
 use Rattle.ends.specs.Lists.{All}
 use Rattle.rules.specs.Calls.{Call, frame, tick, pilot, terminate, linkUp}
 use Rattle.rules.specs.Records.{isHeld}
@@ -24,12 +24,15 @@ Within t most = (0 < t) × (t ≤ most)
 abbrev pub Reportable : ℕ → Type 0
 Reportable n = (1 ≤ n) × (n ≤ soundCount)
 
--- what a phase says of its time, its retries and the profiles counted
+-- what a phase says of its time, its retries or toggles, and the profiles counted
 abbrev pub InPhase : Phase → ℕ → Type 0
 InPhase (Asked t) n = Within t askedTime × (n ≡ 0)
 InPhase (Sounding t) n = Within t soundingTime × (n < soundCount)
 InPhase (Reported t k) n = Within t reportedTime × ((k ≤ retryCount) × Reportable n)
 InPhase (Awaiting t) n = Within t awaitingTime × Reportable n
+InPhase (Ready t) n = Within t readyTime × Reportable n
+InPhase (Counting t k b) n = Within t (windowStep * windowCount) × ((k ≤ mostToggles) × Reportable n)
+InPhase (Success t) n = Within t successTime × Reportable n
 
 -- one record, held or free
 pub record GoodRecord (r : Record) : Type 0 where

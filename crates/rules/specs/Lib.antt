@@ -3,6 +3,7 @@ pub mod Calls
 pub mod Stations
 pub mod Records
 pub mod Sounds
+pub mod Validation
 pub mod Replies
 pub mod Received
 pub mod Events

@@ -10,6 +10,8 @@ use Rattle.rules.specs.declared.State.{State}
 use Rattle.rules.specs.declared.State.the-variants.{Unmatched, Matching, Joining, Matched}
 use Rattle.rules.specs.declared.Station.{Station}
 use Rattle.rules.specs.Records.{mine, noneHeld}
+use Rattle.ends.specs.Lists.{only}
+use Rattle.rules.specs.Validation.{isValidating}
 use Rattle.rules.specs.Events.{plugged}
 
 -- records are held in Matching only
@@ -23,6 +25,8 @@ pub record Reachable (s : Station) : Type 0 where
   -- no car holds two records
   pub one : (c : CarAddress) → length (mine c (s .records)) ≤ 1
   pub held : HeldIn (s .state) (s .records)
+  -- at most one record is ready or counting
+  pub validating : length (only isValidating (s .records)) ≤ 1
   -- with the pilot at A, E or F, and with a bad configuration, the station is Unmatched
   pub unplugged : plugged (s .pilot) ≡ false → s .state ≡ Unmatched
   pub bad : s .config .good ≡ false → s .state ≡ Unmatched

@@ -1,22 +1,24 @@
 -- What a frame's octets say to a station: reading's refusals, then 17, or a car's request.
 use Prim.Native.Nat.{ℕ}
-use mathlib.Core.Bool.{Bool, true, not, _&&_}
+use mathlib.Core.Bool.{Bool, true, not, cond, _&&_}
 use mathlib.Core.List.{List}
 use lib.Dec.{eqb}
 use Rattle.messages.specs.declared.CarAddress.{CarAddress}
 use Rattle.messages.specs.declared.RunId.{RunId}
 use Rattle.messages.specs.Layout.{Values}
-use Rattle.messages.specs.Table.{Kind, slacParmReq, slacParmCnf, startAttenCharInd, attenCharInd, attenCharRsp, mnbcSoundInd, slacMatchReq, slacMatchCnf, attenProfileInd, payload, Message}
+use Rattle.messages.specs.Table.{Kind, slacParmReq, slacParmCnf, startAttenCharInd, attenCharInd, attenCharRsp, mnbcSoundInd, validateReq, validateCnf, slacMatchReq, slacMatchCnf, attenProfileInd, broadcast, payload, Message}
 use Rattle.messages.specs.Reading.{Checked, no, yes, readRules}
 use Rattle.rules.specs.declared.Configuration.{Configuration}
 use Rattle.ends.specs.Outcomes.{andThen}
 
--- what concerns a car's record: PARM.REQ, START, SOUND with its count, PROFILE with its group values, RSP
+-- what concerns a car's record: PARM.REQ, START, SOUND with its count, PROFILE with its group values, RSP, the first VALIDATE.REQ, the second with its timer
 pub data RecordMessage : Type 0 where
   parmReq start : RunId → RecordMessage
   sound : RunId → ℕ → RecordMessage
   profile : List ℕ → RecordMessage
   rsp : RunId → RecordMessage
+  validateFirst : RecordMessage
+  validateSecond : ℕ → RecordMessage
 
 -- what a car's frame asks for: MATCH.REQ, or a change of its record
 pub data Request : Type 0 where
@@ -38,6 +40,10 @@ fromCar c d f m = yes (record { car = record { 0 = c }; dst = d; src = f; reques
 abbrev pub runOf : ℕ → RunId
 runOf n = record { 0 = n }
 
+-- "the destination alone tells the two requests apart: unicast is the first, broadcast the second"
+abbrev pub validation : ℕ → ℕ → RecordMessage
+validation d timer = cond (eqb d broadcast) (validateSecond timer) validateFirst
+
 -- by the message: 17 where "only a car receives" it
 abbrev pub receivedAs : (k : Kind) (d f : ℕ) → Values (payload k d f) → Checked Received
 receivedAs slacParmReq d f vs = fromCar f d f (forRecord (parmReq (runOf (vs .0))))
@@ -46,6 +52,8 @@ receivedAs startAttenCharInd d f vs = fromCar f d f (forRecord (start (runOf (vs
 receivedAs attenCharInd d f vs = no 17
 receivedAs attenCharRsp d f vs = fromCar f d f (forRecord (rsp (runOf (vs .0))))
 receivedAs mnbcSoundInd d f vs = fromCar f d f (forRecord (sound (runOf (vs .1 .0)) (vs .0)))
+receivedAs validateReq d f vs = fromCar f d f (forRecord (validation d (vs .0)))
+receivedAs validateCnf d f vs = no 17
 receivedAs slacMatchReq d f vs = fromCar f d f (matchReq (runOf (vs .0)))
 receivedAs slacMatchCnf d f vs = no 17
 receivedAs attenProfileInd d f vs = fromCar (vs .0) d f (forRecord (profile (vs .1 .0)))
@@ -65,6 +73,8 @@ toUs o d f (forRecord (start run)) = true
 toUs o d f (forRecord (sound run k)) = true
 toUs o d f (forRecord (profile vs)) = eqb d (o .address .0) && eqb f (o .modem .0)
 toUs o d f (forRecord (rsp run)) = eqb d (o .address .0)
+toUs o d f (forRecord validateFirst) = eqb d (o .address .0)
+toUs o d f (forRecord (validateSecond timer)) = true
 toUs o d f (matchReq run) = eqb d (o .address .0)
 
 -- neither "car is us" nor "our modem"

@@ -24,7 +24,8 @@ use Rattle.ends.specs.Outcomes.{Outcome, andThen, next, outcomeOf}
 use Rattle.rules.specs.Stations.{Shared, Inner, shared, inner, build, Done}
 use Rattle.rules.specs.Records.{mine, freed, fresh}
 use Rattle.rules.specs.Received.{received}
-use Rattle.rules.specs.Events.{plugged, ended, pilotDone, linkRule}
+use Rattle.rules.specs.Events.{plugged, isB, ended, pilotDone, linkRule}
+use Rattle.rules.specs.Validation.{turn}
 use Rattle.rules.specs.Frames.{atOwn, admitted, frameRule}
 use Rattle.rules.specs.Ticks.{tickElapsed, tickDone}
 
@@ -38,10 +39,10 @@ isGood a m nid = isUnicast (a .0) && isUnicast (m .0) && not (eqb (a .0) (m .0))
 unfoldable pub freeRecord : Record
 freeRecord = freed (fresh (record { 0 = 0 }) (record { 0 = 0 }))
 
--- the station that configuring gives: "Unmatched (at first)", pilot "A at first", reading "0 at first"
-unfoldable pub configured : StationAddress → ModemAddress → Nid → Nmk → Station
-configured a m nid nmk = record {
-  config = record { good = isGood a m nid; address = a; modem = m; nid = nid; nmk = nmk };
+-- the station that configuring gives, with "whether validation is not required": "Unmatched (at first)", pilot "A at first", reading "0 at first"
+unfoldable pub configured : StationAddress → ModemAddress → Nid → Nmk → Bool → Station
+configured a m nid nmk exempt = record {
+  config = record { good = isGood a m nid; address = a; modem = m; nid = nid; nmk = nmk; exempt = exempt };
   state = Unmatched;
   pilot = A;
   clock = 0;
@@ -57,8 +58,8 @@ configuring a m nid = check (isGood a m nid) 16 (yes (record { frames = []; indi
 -- what a call does to the state and the records, given the shared part
 unfoldable pub rule : Shared → Inner → Call → Checked Done
 rule o i (frame s room) = frameRule (o .config) i (admitted (o .config) room (received s))
-rule o i (tick t room) = andThen (tickElapsed o t room) (λ (e : ℕ). yes (tickDone (o .config) e (i .state) (i .records)))
-rule o i (pilot p t) = check (o .config .good) 16 (yes (pilotDone (plugged (o .pilot)) (plugged p) i))
+rule o i (tick t room) = andThen (tickElapsed o t room) (λ (e : ℕ). yes (tickDone (o .config) (isB (o .pilot)) e (i .state) (i .records)))
+rule o i (pilot p t) = check (o .config .good) 16 (yes (pilotDone (plugged (o .pilot)) (plugged p) (turn (o .pilot) p) i))
 rule o i terminate = check (o .config .good) 16 (yes (ended i))
 rule o i linkUp = check (o .config .good) 16 (linkRule (i .state) (i .records))
 

@@ -35,30 +35,64 @@ pub const REPORTED_TIME: u32 = RESPONSE_TIME;
 // Awaiting's time: TT_EVSE_match_session.
 pub const AWAITING_TIME: u32 = 10000;
 
+// Ready's time: TT_match_sequence.
+pub const READY_TIME: u32 = ASKED_TIME;
+
+// A step of the window in which toggles count.
+pub const WINDOW_STEP: u32 = 100;
+
+// The longest window: the timer is an octet.
+pub const LONGEST_WINDOW: u32 = WINDOW_STEP * 256;
+
+// Success's time: TT_EVSE_match_session.
+pub const SUCCESS_TIME: u32 = AWAITING_TIME;
+
+// The most toggles that VALIDATE.CNF can tell.
+pub const MOST_TOGGLES: u8 = 255;
+
+// The results that the station sends: ready to count.
+pub const READY_RESULT: u8 = 1;
+
+// The window ended with the pilot at B.
+pub const SUCCESS_RESULT: u8 = 2;
+
+// The window ended elsewhere, or another car is validated.
+pub const FAILURE_RESULT: u8 = 3;
+
+// Validation is not required.
+pub const NOT_REQUIRED_RESULT: u8 = 4;
+
 // How many runs are matched side by side: C_EVSE_match_parallel.
 pub const RECORDS: usize = 5;
 
 // How many octets a report takes.
 pub const REPORT_OCTETS: usize = 129;
 
+// How many octets a confirmation takes.
+pub const CONFIRMATION_OCTETS: usize = 60;
+
 // The least output that a frame or a tick asks for: a report of every record.
 pub const LEAST_OUTPUT: usize = REPORT_OCTETS * RECORDS;
 
-// What a station is configured with; good is false where it was refused.
+// What a station is configured with; good is false where it was refused, exempt is true where validation is not required.
 pub struct Configuration {
     pub good: bool,
     pub address: StationAddress,
     pub modem: ModemAddress,
     pub nid: Nid,
     pub nmk: Nmk,
+    pub exempt: bool,
 }
 
-// Where a car's run stands, with the time left.
+// Where a car's run stands, with the time left; the last three are the steps of Validating.
 pub enum Phase {
     Asked(u32),
     Sounding(u32),
     Reported { left: u32, retries: u8 },
     Awaiting(u32),
+    Ready(u32),
+    Counting { left: u32, toggles: u8, begun: bool },
+    Success(u32),
 }
 
 // The sums of a record's groups.
@@ -98,6 +132,14 @@ pub enum Pilot {
     D,
     E,
     F,
+}
+
+// What a pilot change means for a toggle: it begins one, ends one, changes nothing, or leaves none begun.
+pub enum Turn {
+    Begins,
+    Ends,
+    Stays,
+    Breaks,
 }
 
 // A charging station's side of SLAC matching; the clock is the last reading taken.
@@ -191,8 +233,14 @@ pub fn is_good(address: StationAddress, modem: ModemAddress, nid: Nid) -> bool
 }
 
 // A station, unmatched; a bad configuration is refused, and its station answers 16 to everything.
-pub fn configure(address: StationAddress, modem: ModemAddress, nid: Nid, nmk: Nmk) -> Configured
-    ensures { λ r. ⌜ Configures address modem nid nmk r ⌝ }
+pub fn configure(
+    address: StationAddress,
+    modem: ModemAddress,
+    nid: Nid,
+    nmk: Nmk,
+    exempt: bool,
+) -> Configured
+    ensures { λ r. ⌜ Configures address modem nid nmk exempt r ⌝ }
 {
     let good = is_good(address, modem, nid);
     let records = free_records();
@@ -202,6 +250,7 @@ pub fn configure(address: StationAddress, modem: ModemAddress, nid: Nid, nmk: Nm
         modem: modem,
         nid: nid,
         nmk: nmk,
+        exempt: exempt,
     };
     let station = Station {
         config: config,
