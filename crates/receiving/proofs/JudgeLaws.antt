@@ -1,18 +1,19 @@
 -- Judging a frame, in the rules' words.
 use Prim.Native.Nat.{ℕ, _≤_, _<_}
 use mathlib.Core.Path.{_≡_, refl, sym, ap, ap₂, _∙_, subst}
-use mathlib.Core.Bool.{Bool, true, false, not}
+use mathlib.Core.Bool.{Bool, true, false, not, cond, _&&_}
 use mathlib.Core.List.{List, [], _∷_}
 use native.Mathlib.Omega.{arith}
-use borrow.Author.Tests.{not-true, not-false, le-leb, lt-leb, leb-true}
+use borrow.Author.Tests.{not-true, not-false, le-leb, lt-leb, leb-true, eq-eqb, ne-eqb}
 use denote.Enum.Declared.{tagOf}
-use lib.Dec.{leb}
+use lib.Dec.{eqb, leb}
 use types.Run.{OneOf, miss}
 use Rattle.messages.specs.declared.CarAddress.{CarAddress}
 use Rattle.messages.specs.declared.Message.{Message}
-use Rattle.messages.specs.declared.Message.the-variants.{SlacParmReq, SlacParmCnf, StartAttenCharInd, AttenCharInd, AttenCharRsp, MnbcSoundInd, SlacMatchReq, SlacMatchCnf, AttenProfileInd}
+use Rattle.messages.specs.declared.Message.the-variants.{SlacParmReq, SlacParmCnf, StartAttenCharInd, AttenCharInd, AttenCharRsp, MnbcSoundInd, ValidateReq, ValidateCnf, SlacMatchReq, SlacMatchCnf, AttenProfileInd}
 use Rattle.messages.specs.declared.ReadAnswer.{ReadAnswer}
 use Rattle.messages.specs.declared.ReadAnswer.the-variants as readAnswer
+use Rattle.messages.specs.declared.Receiver.{Receiver}
 use Rattle.messages.specs.declared.Refusal.{Refusal}
 use Rattle.messages.specs.Answers.{numberOf, messageOf, answerOf}
 use Rattle.messages.specs.Reading.{Checked, no, yes, check, groupsOf, readRules}
@@ -27,7 +28,7 @@ use Rattle.rules.specs.declared.Station.{Station}
 use Rattle.rules.specs.Calls as calls
 use Rattle.rules.specs.Constants.{leastOutput}
 use Rattle.ends.specs.Outcomes.{andThen}
-use Rattle.rules.specs.Received.{Request, forRecord, matchReq, Received, receivedIn, received, isForUs}
+use Rattle.rules.specs.Received.{validateFirst, validateSecond, Request, forRecord, matchReq, Received, fromCar, receivedIn, received, notUs, isForUs}
 use Rattle.rules.specs.Stations.{Done, shared, inner}
 use Rattle.rules.specs.Frames.{stateRule, admitted}
 use Rattle.rules.specs.Rules.{rule}
@@ -36,6 +37,7 @@ use Rattle.rules.proofs.ReceivedLaws.{ReadAs, read-as}
 use Rattle.receiving.specs.declared.judge.Judged.{Judged}
 use Rattle.receiving.specs.declared.judge.Judged.the-variants as judged
 use Rattle.receiving.specs.declared.judge.Request as code
+use Rattle.receiving.specs.declared.judge.Request.the-variants as requests
 use Rattle.receiving.specs.Judge.{Asking, asking, takes, stateJudged, forUsRule, addressedRule, judgeRule, requestOf, judgedOf, refusalIn, forUs}
 
 -- ---- the order of the refusals
@@ -104,16 +106,30 @@ addressed-as o b c q q′ m m′ j e f t h g =
     ap (λ (x : Judged). judgedOf x g) (e ∙ ap (forUs b c) f) ∙ for-us-rule b c q′ g ∙ h g ∙ sym (ap (λ (x : Message). addressedRule o (messageOf x g)) t)
 
 -- 17
-pub only-cars : (o : Configuration) (m : Message) (g : List ℕ) → OneOf (1 ∷ 3 ∷ 7 ∷ []) (tagOf the-type m) → no 17 ≡ addressedRule o (messageOf m g)
-only-cars o (SlacParmReq c r) g t = absurd (miss (1 ∷ 3 ∷ 7 ∷ []) 0 tt t)
+pub only-cars : (o : Configuration) (m : Message) (g : List ℕ) → OneOf (1 ∷ 3 ∷ 7 ∷ 9 ∷ []) (tagOf the-type m) → no 17 ≡ addressedRule o (messageOf m g)
+only-cars o (SlacParmReq c r) g t = absurd (miss (1 ∷ 3 ∷ 7 ∷ 9 ∷ []) 0 tt t)
 only-cars o (SlacParmCnf s c r) g t = refl
-only-cars o (StartAttenCharInd c r) g t = absurd (miss (1 ∷ 3 ∷ 7 ∷ []) 2 tt t)
+only-cars o (StartAttenCharInd c r) g t = absurd (miss (1 ∷ 3 ∷ 7 ∷ 9 ∷ []) 2 tt t)
 only-cars o (AttenCharInd s c r n) g t = refl
-only-cars o (AttenCharRsp c s r) g t = absurd (miss (1 ∷ 3 ∷ 7 ∷ []) 4 tt t)
-only-cars o (MnbcSoundInd c n r x) g t = absurd (miss (1 ∷ 3 ∷ 7 ∷ []) 5 tt t)
-only-cars o (SlacMatchReq c s r) g t = absurd (miss (1 ∷ 3 ∷ 7 ∷ []) 6 tt t)
+only-cars o (AttenCharRsp c s r) g t = absurd (miss (1 ∷ 3 ∷ 7 ∷ 9 ∷ []) 4 tt t)
+only-cars o (MnbcSoundInd c n r x) g t = absurd (miss (1 ∷ 3 ∷ 7 ∷ 9 ∷ []) 5 tt t)
+only-cars o (ValidateReq c n d) g t = absurd (miss (1 ∷ 3 ∷ 7 ∷ 9 ∷ []) 6 tt t)
+only-cars o (ValidateCnf s n c x) g t = refl
+only-cars o (SlacMatchReq c s r) g t = absurd (miss (1 ∷ 3 ∷ 7 ∷ 9 ∷ []) 8 tt t)
 only-cars o (SlacMatchCnf s c r n k) g t = refl
-only-cars o (AttenProfileInd m s c) g t = absurd (miss (1 ∷ 3 ∷ 7 ∷ []) 8 tt t)
+only-cars o (AttenProfileInd m s c) g t = absurd (miss (1 ∷ 3 ∷ 7 ∷ 9 ∷ []) 10 tt t)
+
+-- VALIDATE.REQ to all, and to one station
+module _ (o : Configuration) (c : CarAddress) (d : Receiver) (n : ℕ) (j : Judged) where
+  pub to-all : d .0 ≡ table.broadcast → j ≡ forUs (true && notUs o c) c (requests.ValidateSecond n) → (g : List ℕ) → judgedOf j g ≡ addressedRule o (messageOf (ValidateReq c n d) g)
+  to-all e q g =
+      ap (λ (x : Judged). judgedOf x g) q ∙ for-us-rule (true && notUs o c) c (requests.ValidateSecond n) g
+      ∙ sym (ap (λ (b : Bool). forUsRule o (fromCar (c .0) (d .0) (c .0) (forRecord (cond b (validateSecond n) validateFirst)))) (eq-eqb (d .0) table.broadcast e))
+
+  pub to-one : (d .0 ≡ table.broadcast → ⊥) → j ≡ forUs (eqb (d .0) (o .address .0) && notUs o c) c requests.ValidateFirst → (g : List ℕ) → judgedOf j g ≡ addressedRule o (messageOf (ValidateReq c n d) g)
+  to-one e q g =
+      ap (λ (x : Judged). judgedOf x g) q ∙ for-us-rule (eqb (d .0) (o .address .0) && notUs o c) c requests.ValidateFirst g
+      ∙ sym (ap (λ (b : Bool). forUsRule o (fromCar (c .0) (d .0) (c .0) (forRecord (cond b (validateSecond n) validateFirst)))) (ne-eqb (d .0) table.broadcast e))
 
 -- ---- 8
 

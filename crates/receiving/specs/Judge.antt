@@ -14,15 +14,15 @@ use Rattle.rules.specs.declared.Configuration.{Configuration}
 use Rattle.rules.specs.declared.State.{State}
 use Rattle.rules.specs.declared.State.the-variants.{Unmatched, Matching, Joining, Matched}
 use Rattle.ends.specs.Outcomes.{andThen}
-use Rattle.rules.specs.Received.{RecordMessage, parmReq, start, sound, profile, rsp, Request, forRecord, matchReq, Received, receivedIn, received, isForUs}
+use Rattle.rules.specs.Received.{RecordMessage, parmReq, start, sound, profile, rsp, validateFirst, validateSecond, Request, forRecord, matchReq, Received, receivedIn, received, isForUs}
 use Rattle.rules.specs.Frames.{admitted}
 use Rattle.records.specs.declared.requests.RunMessage.the-variants.{Start, Sound, Rsp}
 use Rattle.receiving.specs.declared.judge.Judged.{Judged}
 use Rattle.receiving.specs.declared.judge.Judged.the-variants as judged
 use Rattle.receiving.specs.declared.judge.OwnMessage.{OwnMessage}
-use Rattle.receiving.specs.declared.judge.OwnMessage.the-variants.{Run, Profile}
+use Rattle.receiving.specs.declared.judge.OwnMessage.the-variants.{Run, Profile, ValidateSecond}
 use Rattle.receiving.specs.declared.judge.Request as code
-use Rattle.receiving.specs.declared.judge.Request.the-variants.{Parm, Own, Match}
+use Rattle.receiving.specs.declared.judge.Request.the-variants as request
 
 -- a request, and the car that asks
 pub record Asking : Type 0 where
@@ -71,12 +71,15 @@ ownMessageOf (Run run Start) g = start run
 ownMessageOf (Run run (Sound k)) g = sound run k
 ownMessageOf (Run run Rsp) g = rsp run
 ownMessageOf Profile g = profile g
+ownMessageOf (ValidateSecond timer) g = validateSecond timer
 
 -- a request, with the group values g beside it
 abbrev pub requestOf : code.Request → List ℕ → Request
-requestOf (Parm run) g = forRecord (parmReq run)
-requestOf (Own m) g = forRecord (ownMessageOf m g)
-requestOf (Match run) g = matchReq run
+requestOf (request.Parm run) g = forRecord (parmReq run)
+requestOf (request.Own m) g = forRecord (ownMessageOf m g)
+requestOf request.ValidateFirst g = forRecord validateFirst
+requestOf (request.ValidateSecond timer) g = forRecord (validateSecond timer)
+requestOf (request.Match run) g = matchReq run
 
 -- what judging answered, with the group values g beside it
 abbrev pub judgedOf : Judged → List ℕ → Checked Asking

@@ -1,7 +1,9 @@
 // What is decided of a frame before a record is looked at: 16, 15, reading, 17, 7, 8.
+use messages::BROADCAST;
 use messages::CarAddress;
 use messages::Message;
 use messages::ReadAnswer;
+use messages::Receiver;
 use messages::Refusal;
 use messages::RunId;
 use records::requests::RunMessage;
@@ -18,16 +20,19 @@ ghost use Rattle.rules.specs.Received.{notUs};
 ghost use Rattle.receiving.specs.Judge as rule;
 ghost use Rattle.receiving.specs.Judge.{requestOf, refusalIn, judgedOf, forUs, addressedRule, stateJudged, judgeRule};
 
-// What concerns a record that the car has: START, SOUND or RSP of a run, or PROFILE, whose group values stand in the frame.
+// What concerns a record that the car has: START, SOUND or RSP of a run, PROFILE, whose group values stand in the frame, or the second VALIDATE.REQ with its timer.
 pub enum OwnMessage {
     Run { run: RunId, message: RunMessage },
     Profile,
+    ValidateSecond(u8),
 }
 
-// What a car's frame asks for: PARM.REQ, a change of its own record, or MATCH.REQ.
+// What a car's frame asks for: PARM.REQ, a message at its own record, the first VALIDATE.REQ, whose answer looks at all records, the second with its timer, or MATCH.REQ.
 pub enum Request {
     Parm(RunId),
     Own(OwnMessage),
+    ValidateFirst,
+    ValidateSecond(u8),
     Match(RunId),
 }
 
@@ -73,6 +78,18 @@ fn of_run(run: RunId, message: RunMessage) -> Request
     })
 }
 
+// VALIDATE.REQ by its destination: the second goes to all, the first to one station.
+fn validate_req(config: Configuration, car: CarAddress, receiver: Receiver, timer: u8) -> Judged
+    ensures { λ j. ⌜ ((g : List ℕ) → judgedOf j g ≡ addressedRule config (messageOf (Message.ValidateReq car timer receiver) g)) ⌝ }
+{
+    let us = config.address;
+    if receiver.0 == BROADCAST {
+        for_us(config, true, car, Request::ValidateSecond(timer))
+    } else {
+        for_us(config, receiver.0 == us.0, car, Request::ValidateFirst)
+    }
+}
+
 // By the message: 17 where only a car receives it, then 7.
 fn addressed(config: Configuration, message: Message) -> Judged
     ensures { λ j. ⌜ ((g : List ℕ) → judgedOf j g ≡ addressedRule config (messageOf message g)) ⌝ }
@@ -94,6 +111,11 @@ fn addressed(config: Configuration, message: Message) -> Judged
             let ours = station.0 == us.0;
             for_us(config, ours, car, of_run(run, RunMessage::Rsp))
         }
+        Message::ValidateReq {
+            car,
+            receiver,
+            timer,
+        } => validate_req(config, car, receiver, timer),
         Message::SlacMatchReq { car, station, run } => {
             for_us(config, station.0 == us.0, car, Request::Match(run))
         }
@@ -117,6 +139,8 @@ fn is_match(request: Request) -> bool
         Request::Match(_) => true,
         Request::Parm(_) => false,
         Request::Own(_) => false,
+        Request::ValidateFirst => false,
+        Request::ValidateSecond(_) => false,
     }
 }
 

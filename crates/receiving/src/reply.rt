@@ -1,4 +1,4 @@
-// The messages of the replies to a car: PARM.CNF, the report ATTEN_CHAR.IND, MATCH.CNF.
+// The messages of the replies to a car: PARM.CNF, the report ATTEN_CHAR.IND, VALIDATE.CNF, MATCH.CNF.
 use messages::CarAddress;
 use messages::Message;
 use messages::RunId;
@@ -8,7 +8,7 @@ ghost use Prim.Native.Nat.{ℕ};
 ghost use mathlib.Core.Path.{_≡_};
 ghost use mathlib.Core.List.{List, map};
 ghost use Rattle.messages.specs.Answers.{messageOf};
-ghost use Rattle.rules.specs.Replies.{mean, parmCnf, matchCnf, reportOf, messageTo};
+ghost use Rattle.rules.specs.Replies.{mean, parmCnf, matchCnf, confirmation, reportOf, messageTo};
 
 // PARM.CNF of a run.
 pub fn parm_cnf(config: Configuration, car: CarAddress, run: RunId) -> Message
@@ -33,6 +33,19 @@ pub fn report(config: Configuration, car: CarAddress, r: Record) -> Message
         car: car,
         run: run,
         sounds: r.profiles,
+    }
+}
+
+// VALIDATE.CNF with toggles and a result.
+pub fn validate_cnf(config: Configuration, car: CarAddress, toggles: u8, result: u8) -> Message
+    ensures { λ m. ⌜ ((g : List ℕ) → messageOf m g ≡ messageTo config car (confirmation toggles result)) ⌝ }
+{
+    let us = config.address;
+    Message::ValidateCnf {
+        station: us,
+        car: car,
+        toggles: toggles,
+        result: result,
     }
 }
 

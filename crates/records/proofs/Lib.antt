@@ -6,3 +6,4 @@ pub mod RequestLaws
 pub mod PlaceLaws
 pub mod MeanLaws
 pub mod TimerLaws
+pub mod ValidationLaws

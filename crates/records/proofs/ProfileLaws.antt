@@ -3,7 +3,7 @@ use Prim.Native.Nat.{ℕ, _*_, _≤_}
 use native.Mathlib.Omega.{arith}
 use lib.ListN.{getD}
 use Rattle.rules.specs.declared.Phase.{Phase}
-use Rattle.rules.specs.declared.Phase.the-variants.{Asked, Sounding, Reported, Awaiting}
+use Rattle.rules.specs.declared.Phase.the-variants.{Asked, Sounding, Reported, Awaiting, Ready, Counting, Success}
 use Rattle.rules.specs.declared.Record.{Record}
 use Rattle.ends.specs.Constants.{soundCount}
 use Rattle.rules.specs.Invariant.{InPhase, GoodRecord}
@@ -14,6 +14,9 @@ phase-most (Asked t) n h = omega arith
 phase-most (Sounding t) n h = omega arith
 phase-most (Reported t k) n h = h .1 .1 .1
 phase-most (Awaiting t) n h = h .1 .1
+phase-most (Ready t) n h = h .1 .1
+phase-most (Counting t k b) n h = h .1 .1 .1
+phase-most (Success t) n h = h .1 .1
 
 -- so a record has at most all
 pub profiles-most : (r : Record) → GoodRecord r → r .profiles ≤ soundCount

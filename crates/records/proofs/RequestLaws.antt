@@ -13,18 +13,20 @@ use Rattle.messages.specs.Answers.{numberOf}
 use Rattle.messages.specs.Reading.{Checked, no, yes, check}
 use Rattle.messages.proofs.CheckLaws.{pass, fail}
 use Rattle.rules.specs.declared.Phase.{Phase}
-use Rattle.rules.specs.declared.Phase.the-variants.{Asked, Sounding, Reported, Awaiting}
+use Rattle.rules.specs.declared.Phase.the-variants.{Asked, Sounding, Reported, Awaiting, Ready, Counting, Success}
 use Rattle.rules.specs.declared.Record.{Record}
 use Rattle.ends.specs.Constants.{soundCount, retryCount}
 use Rattle.rules.specs.Records.{sameRun, inPhase, reported, withHeard, counted}
 use Rattle.rules.specs.Sounds.{isIn, marked}
-use Rattle.rules.specs.Replies.{reportOf}
-use Rattle.rules.specs.Frames.{Kept, keeps, startRule, soundRule, profileRule, rspRule, isAwaiting, matchRule}
+use Rattle.rules.specs.Constants.{readyTime, readyResult}
+use Rattle.rules.specs.Replies.{confirmation, reportOf}
+use Rattle.rules.specs.Frames.{Kept, keeps, startRule, soundRule, profileRule, rspRule, answered, firstRule, secondRule, mayMatch, matchRule}
 use Rattle.rules.proofs.Phase.{the-type}
 use Rattle.records.specs.declared.requests.Effect.the-variants as effect
 use Rattle.records.specs.declared.requests.Kept as code
+use Rattle.records.specs.declared.requests.Verdict.the-variants as verdict
 use Rattle.records.specs.Heard.{marking}
-use Rattle.records.specs.Requests.{recordAfter, Keeps}
+use Rattle.records.specs.Requests.{recordAfter, Keeps, Validates}
 use Rattle.records.proofs.HeardLaws.{new-marking}
 
 -- ---- what a message comes to
@@ -50,45 +52,80 @@ as-rule r x y k e h = subst (λ (z : Checked Kept). Keeps r z k) e h
 
 -- what Sounding alone takes
 not-sounding : (f : Phase → Checked Kept) → ((t : ℕ) → f (Asked t) ≡ no 12) → ((t n : ℕ) → f (Reported t n) ≡ no 12) → ((t : ℕ) → f (Awaiting t) ≡ no 12)
-    → (p : Phase) → OneOf (0 ∷ 2 ∷ 3 ∷ []) (tagOf the-type p) → f p ≡ no 12
-not-sounding f a b d (Asked t) o = a t
-not-sounding f a b d (Sounding t) o = absurd (miss (0 ∷ 2 ∷ 3 ∷ []) 1 tt o)
-not-sounding f a b d (Reported t n) o = b t n
-not-sounding f a b d (Awaiting t) o = d t
+    → ((t : ℕ) → f (Ready t) ≡ no 12) → ((t k : ℕ) (b : Bool) → f (Counting t k b) ≡ no 12) → ((t : ℕ) → f (Success t) ≡ no 12)
+    → (p : Phase) → OneOf (0 ∷ 2 ∷ 3 ∷ 4 ∷ 5 ∷ 6 ∷ []) (tagOf the-type p) → f p ≡ no 12
+not-sounding f a b d g h i (Asked t) o = a t
+not-sounding f a b d g h i (Sounding t) o = absurd (miss (0 ∷ 2 ∷ 3 ∷ 4 ∷ 5 ∷ 6 ∷ []) 1 tt o)
+not-sounding f a b d g h i (Reported t n) o = b t n
+not-sounding f a b d g h i (Awaiting t) o = d t
+not-sounding f a b d g h i (Ready t) o = g t
+not-sounding f a b d g h i (Counting t k c) o = h t k c
+not-sounding f a b d g h i (Success t) o = i t
 
 -- SOUND outside Sounding
-pub sound-elsewhere : (k : ℕ) (r : Record) (p : Phase) → OneOf (0 ∷ 2 ∷ 3 ∷ []) (tagOf the-type p) → soundRule k r p ≡ no 12
+pub sound-elsewhere : (k : ℕ) (r : Record) (p : Phase) → OneOf (0 ∷ 2 ∷ 3 ∷ 4 ∷ 5 ∷ 6 ∷ []) (tagOf the-type p) → soundRule k r p ≡ no 12
 unfolding soundRule
-sound-elsewhere k r p o = not-sounding (soundRule k r) (λ t. refl) (λ t n. refl) (λ t. refl) p o
+sound-elsewhere k r p o = not-sounding (soundRule k r) (λ t. refl) (λ t n. refl) (λ t. refl) (λ t. refl) (λ t n b. refl) (λ t. refl) p o
 
 -- PROFILE outside Sounding
-pub profile-elsewhere : (vs : List ℕ) (r : Record) (p : Phase) → OneOf (0 ∷ 2 ∷ 3 ∷ []) (tagOf the-type p) → profileRule vs r p ≡ no 12
+pub profile-elsewhere : (vs : List ℕ) (r : Record) (p : Phase) → OneOf (0 ∷ 2 ∷ 3 ∷ 4 ∷ 5 ∷ 6 ∷ []) (tagOf the-type p) → profileRule vs r p ≡ no 12
 unfolding profileRule
-profile-elsewhere vs r p o = not-sounding (profileRule vs r) (λ t. refl) (λ t n. refl) (λ t. refl) p o
+profile-elsewhere vs r p o = not-sounding (profileRule vs r) (λ t. refl) (λ t n. refl) (λ t. refl) (λ t. refl) (λ t n b. refl) (λ t. refl) p o
 
 -- START after Sounding
-pub start-late : (r : Record) (p : Phase) → OneOf (2 ∷ 3 ∷ []) (tagOf the-type p) → startRule r p ≡ no 12
+pub start-late : (r : Record) (p : Phase) → OneOf (2 ∷ 3 ∷ 4 ∷ 5 ∷ 6 ∷ []) (tagOf the-type p) → startRule r p ≡ no 12
 unfolding startRule
-start-late r (Asked t) o = absurd (miss (2 ∷ 3 ∷ []) 0 tt o)
-start-late r (Sounding t) o = absurd (miss (2 ∷ 3 ∷ []) 1 tt o)
+start-late r (Asked t) o = absurd (miss (2 ∷ 3 ∷ 4 ∷ 5 ∷ 6 ∷ []) 0 tt o)
+start-late r (Sounding t) o = absurd (miss (2 ∷ 3 ∷ 4 ∷ 5 ∷ 6 ∷ []) 1 tt o)
 start-late r (Reported t n) o = refl
 start-late r (Awaiting t) o = refl
+start-late r (Ready t) o = refl
+start-late r (Counting t k b) o = refl
+start-late r (Success t) o = refl
 
 -- RSP outside Reported
-pub rsp-elsewhere : (r : Record) (p : Phase) → OneOf (0 ∷ 1 ∷ 3 ∷ []) (tagOf the-type p) → rspRule r p ≡ no 12
+pub rsp-elsewhere : (r : Record) (p : Phase) → OneOf (0 ∷ 1 ∷ 3 ∷ 4 ∷ 5 ∷ 6 ∷ []) (tagOf the-type p) → rspRule r p ≡ no 12
 unfolding rspRule
 rsp-elsewhere r (Asked t) o = refl
 rsp-elsewhere r (Sounding t) o = refl
-rsp-elsewhere r (Reported t n) o = absurd (miss (0 ∷ 1 ∷ 3 ∷ []) 2 tt o)
+rsp-elsewhere r (Reported t n) o = absurd (miss (0 ∷ 1 ∷ 3 ∷ 4 ∷ 5 ∷ 6 ∷ []) 2 tt o)
 rsp-elsewhere r (Awaiting t) o = refl
+rsp-elsewhere r (Ready t) o = refl
+rsp-elsewhere r (Counting t k b) o = refl
+rsp-elsewhere r (Success t) o = refl
 
--- a phase that is not Awaiting
-not-awaiting : (p : Phase) → OneOf (0 ∷ 1 ∷ 2 ∷ []) (tagOf the-type p) → isAwaiting p ≡ false
-unfolding isAwaiting
-not-awaiting (Asked t) o = refl
-not-awaiting (Sounding t) o = refl
-not-awaiting (Reported t n) o = refl
-not-awaiting (Awaiting t) o = absurd (miss (0 ∷ 1 ∷ 2 ∷ []) 3 tt o)
+-- the first VALIDATE.REQ outside Awaiting
+pub first-elsewhere : (x : ℕ) (r : Record) (p : Phase) → OneOf (0 ∷ 1 ∷ 2 ∷ 4 ∷ 5 ∷ 6 ∷ []) (tagOf the-type p) → firstRule x r p ≡ no 12
+unfolding firstRule
+first-elsewhere x r (Asked t) o = refl
+first-elsewhere x r (Sounding t) o = refl
+first-elsewhere x r (Reported t n) o = refl
+first-elsewhere x r (Awaiting t) o = absurd (miss (0 ∷ 1 ∷ 2 ∷ 4 ∷ 5 ∷ 6 ∷ []) 3 tt o)
+first-elsewhere x r (Ready t) o = refl
+first-elsewhere x r (Counting t k b) o = refl
+first-elsewhere x r (Success t) o = refl
+
+-- the second VALIDATE.REQ outside ready
+pub second-elsewhere : (k : ℕ) (r : Record) (p : Phase) → OneOf (0 ∷ 1 ∷ 2 ∷ 3 ∷ 5 ∷ 6 ∷ []) (tagOf the-type p) → secondRule k r p ≡ no 12
+unfolding secondRule
+second-elsewhere k r (Asked t) o = refl
+second-elsewhere k r (Sounding t) o = refl
+second-elsewhere k r (Reported t n) o = refl
+second-elsewhere k r (Awaiting t) o = refl
+second-elsewhere k r (Ready t) o = absurd (miss (0 ∷ 1 ∷ 2 ∷ 3 ∷ 5 ∷ 6 ∷ []) 4 tt o)
+second-elsewhere k r (Counting t n b) o = refl
+second-elsewhere k r (Success t) o = refl
+
+-- a phase in which MATCH.REQ is refused
+pub may-not-match : (p : Phase) → OneOf (0 ∷ 1 ∷ 2 ∷ 4 ∷ 5 ∷ []) (tagOf the-type p) → false ≡ mayMatch p
+unfolding mayMatch
+may-not-match (Asked t) o = refl
+may-not-match (Sounding t) o = refl
+may-not-match (Reported t n) o = refl
+may-not-match (Awaiting t) o = absurd (miss (0 ∷ 1 ∷ 2 ∷ 4 ∷ 5 ∷ []) 3 tt o)
+may-not-match (Ready t) o = refl
+may-not-match (Counting t k b) o = refl
+may-not-match (Success t) o = absurd (miss (0 ∷ 1 ∷ 2 ∷ 4 ∷ 5 ∷ []) 6 tt o)
 
 -- ---- SOUND and PROFILE in Sounding
 
@@ -166,15 +203,29 @@ module _ (run : RunId) (r : Record) where
   match-other h = sym (of-other run r _ h)
 
   -- of the record's run: by the phase
-  match-phase : (b : Bool) → run .0 ≡ r .run .0 → isAwaiting (r .phase) ≡ b → check b 12 (yes tt) ≡ matchRule run (r ∷ [])
+  pub match-phase : (b : Bool) → run .0 ≡ r .run .0 → b ≡ mayMatch (r .phase) → check b 12 (yes tt) ≡ matchRule run (r ∷ [])
   unfolding matchRule
-  match-phase b h e = ap (λ (x : Bool). check x 12 (yes tt)) (sym e) ∙ of-run run r _ h
+  match-phase b h e = ap (λ (x : Bool). check x 12 (yes tt)) e ∙ of-run run r _ h
 
-  -- before Awaiting
-  pub match-early : run .0 ≡ r .run .0 → OneOf (0 ∷ 1 ∷ 2 ∷ []) (tagOf the-type (r .phase)) → no 12 ≡ matchRule run (r ∷ [])
-  match-early h o = match-phase false h (not-awaiting (r .phase) o)
+-- ---- the first VALIDATE.REQ
 
-  -- in Awaiting
-  pub match-due : (t : ℕ) → run .0 ≡ r .run .0 → r .phase ≡ Awaiting t → yes tt ≡ matchRule run (r ∷ [])
-  unfolding isAwaiting
-  match-due t h e = match-phase true h (ap isAwaiting e)
+module _ (x : ℕ) (r : Record) where
+  -- refused: the record stays
+  pub first-refused : (y : Refusal) → firstRule x r (r .phase) ≡ no (numberOf y) → Validates r x (record { kept = r; verdict = verdict.Refused y })
+  first-refused y e = record { kept = sym (ap (recordAfter r) e); replies = sym e }
+
+  -- in Awaiting, with the record that the result leaves
+  pub first-taken : (t : ℕ) (n : Record) → r .phase ≡ Awaiting t → n ≡ answered x r → Validates r x (record { kept = n; verdict = verdict.Accepted })
+  unfolding firstRule
+  first-taken t n e q =
+      let rule : firstRule x r (r .phase) ≡ keeps (answered x r) (confirmation 0 x ∷ []) = ap (firstRule x r) e in
+      record { kept = q ∙ sym (ap (recordAfter r) rule); replies = ap (λ (m : Record). keeps m (confirmation 0 x ∷ [])) q ∙ sym rule }
+
+-- the record with the result 01, and with another
+pub made-ready : (x : ℕ) (r : Record) → x ≡ readyResult → inPhase (Ready readyTime) r ≡ answered x r
+unfolding answered
+made-ready x r e = rw (eq-eqb x readyResult e)
+
+pub left-waiting : (x : ℕ) (r : Record) → (x ≡ readyResult → ⊥) → r ≡ answered x r
+unfolding answered
+left-waiting x r e = rw (ne-eqb x readyResult e)

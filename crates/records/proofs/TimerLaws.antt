@@ -1,19 +1,21 @@
--- A tick at one record: a phase by its time, and the reports by whether the record reports.
-use Prim.Native.Nat.{ℕ, _-_}
-use mathlib.Core.Path.{_≡_, refl, sym, ap, _∙_}
+-- A tick at one record: a phase by its time, and what it sends.
+use Prim.Native.Nat.{ℕ, _+_, _-_, _≤_}
+use mathlib.Core.Path.{_≡_, refl, sym, ap, subst, _∙_}
 use mathlib.Core.Bool.{Bool, true, false, cond}
 use mathlib.Core.List.{List, [], _∷_}
 use native.Mathlib.Omega.{arith}
 use borrow.Author.Tests.{le-leb, lt-leb, eq-eqb, ne-eqb}
 use lib.Dec.{eqb, leb}
+use lib.ListN.{length}
 use Rattle.rules.specs.declared.Configuration.{Configuration}
 use Rattle.rules.specs.declared.Phase.{Phase}
-use Rattle.rules.specs.declared.Phase.the-variants.{Asked, Sounding, Reported, Awaiting}
+use Rattle.rules.specs.declared.Phase.the-variants.{Asked, Sounding, Reported, Awaiting, Ready, Counting, Success}
 use Rattle.rules.specs.declared.Record.{Record}
-use Rattle.ends.specs.Constants.{retryCount}
+use Rattle.rules.specs.Constants.{successTime}
 use Rattle.rules.specs.Records.{isHeld}
-use Rattle.rules.specs.Replies.{Reply, reportOf, frameTo, framesTo}
-use Rattle.rules.specs.Ticks.{Ticked, nowFree, stillHeld, waits, reports, fires, tickPhase, recordOf, repliesOf, tickRecord, tickReports}
+use Rattle.ends.specs.Lists.{only}
+use Rattle.rules.specs.Replies.{Reply, confirmation, reportOf, isReport, isConfirmation, frameTo, framesTo}
+use Rattle.rules.specs.Ticks.{Ticked, runsOut, waits, fires, windowEnds, tickPhase, recordOf, repliesOf, tickRecord, tickFrames}
 use Rattle.ends.proofs.Logic.{split, clash}
 use Rattle.records.specs.declared.timers.AfterTick.{AfterTick}
 use Rattle.records.specs.Timers.{anySent, tickReplies, afterTick, afterHeld, timeOf, withLeft, firedOf}
@@ -21,28 +23,31 @@ use Rattle.records.specs.Timers.{anySent, tickReplies, afterTick, afterH
 -- ---- a phase by its time
 
 -- a time fires, or the phase is left with what remains
-by-time : (e : ℕ) (r : Record) (p : Phase) → tickPhase e r p ≡ fires e (timeOf p) (firedOf r p) (waits (withLeft (timeOf p - e) p) r)
+pub by-time : (b : Bool) (e : ℕ) (r : Record) (p : Phase) → tickPhase b e r p ≡ fires e (timeOf p) (firedOf b r p) (waits (withLeft (timeOf p - e) p) r)
 unfolding tickPhase
-by-time e r (Asked t) = refl
-by-time e r (Sounding t) = refl
-by-time e r (Reported t n) = refl
-by-time e r (Awaiting t) = refl
+by-time b e r (Asked t) = refl
+by-time b e r (Sounding t) = refl
+by-time b e r (Reported t n) = refl
+by-time b e r (Awaiting t) = refl
+by-time b e r (Ready t) = refl
+by-time b e r (Counting t k g) = refl
+by-time b e r (Success t) = refl
 
-module _ (e : ℕ) (r : Record) (left : ℕ) (l : left ≡ timeOf (r .phase) - e) (t : AfterTick) where
+module _ (b : Bool) (e : ℕ) (r : Record) (left : ℕ) (l : left ≡ timeOf (r .phase) - e) (t : AfterTick) where
   -- a time of which nothing is left fires
-  pub time-fires : left ≡ 0 → t ≡ afterHeld r (firedOf r (r .phase)) → t ≡ afterHeld r (tickPhase e r (r .phase))
+  pub time-fires : left ≡ 0 → t ≡ afterHeld r (firedOf b r (r .phase)) → t ≡ afterHeld r (tickPhase b e r (r .phase))
   time-fires z q =
       let h : leb (timeOf (r .phase)) e ≡ true = le-leb (timeOf (r .phase)) e (omega arith) in
       q
-      ∙ sym (ap (afterHeld r) (by-time e r (r .phase) ∙ ap (λ (b : Bool). cond b (firedOf r (r .phase)) (waits (withLeft (timeOf (r .phase) - e) (r .phase)) r)) h))
+      ∙ sym (ap (afterHeld r) (by-time b e r (r .phase) ∙ ap (λ (x : Bool). cond x (firedOf b r (r .phase)) (waits (withLeft (timeOf (r .phase) - e) (r .phase)) r)) h))
 
   -- and else the phase is left with it
-  pub time-runs : (left ≡ 0 → ⊥) → t ≡ afterHeld r (waits (withLeft left (r .phase)) r) → t ≡ afterHeld r (tickPhase e r (r .phase))
+  pub time-runs : (left ≡ 0 → ⊥) → t ≡ afterHeld r (waits (withLeft left (r .phase)) r) → t ≡ afterHeld r (tickPhase b e r (r .phase))
   time-runs z q =
       let h : leb (timeOf (r .phase)) e ≡ false = lt-leb (timeOf (r .phase)) e (omega arith) in
       q
       ∙ ap (λ (n : ℕ). afterHeld r (waits (withLeft n (r .phase)) r)) l
-      ∙ sym (ap (afterHeld r) (by-time e r (r .phase) ∙ ap (λ (b : Bool). cond b (firedOf r (r .phase)) (waits (withLeft (timeOf (r .phase) - e) (r .phase)) r)) h))
+      ∙ sym (ap (afterHeld r) (by-time b e r (r .phase) ∙ ap (λ (x : Bool). cond x (firedOf b r (r .phase)) (waits (withLeft (timeOf (r .phase) - e) (r .phase)) r)) h))
 
 -- what is chosen by a test of a count
 module _ (r : Record) (n : ℕ) (x y : Ticked) (t : AfterTick) where
@@ -54,77 +59,98 @@ module _ (r : Record) (n : ℕ) (x y : Ticked) (t : AfterTick) where
   pub some-left : (n ≡ 0 → ⊥) → t ≡ afterHeld r y → t ≡ afterHeld r (cond (eqb n 0) x y)
   some-left e q = q ∙ ap (λ (b : Bool). afterHeld r (cond b x y)) (sym (ne-eqb n 0 e))
 
+-- the end of a window, by the pilot
+module _ (b : Bool) (k : ℕ) (r : Record) where
+  pub window-success : b ≡ true → afterHeld r (waits (Success successTime) r) ≡ afterHeld r (windowEnds b k r)
+  unfolding afterHeld recordOf repliesOf windowEnds only isReport
+  window-success h = rw h
+
+  pub window-failure : b ≡ false → afterHeld r runsOut ≡ afterHeld r (windowEnds b k r)
+  unfolding afterHeld recordOf repliesOf windowEnds only isReport
+  window-failure h = rw h
+
 -- ---- a record, held or free
 
 -- what is chosen by whether it is held
 choose : Record → Ticked → Bool → AfterTick
-choose r x b = record { after = cond b (recordOf r x) r; reports = anySent (cond b (repliesOf x) []) }
+choose r x b = record { after = cond b (recordOf r x) r; reports = anySent (only isReport (cond b (repliesOf x) [])) }
 
 -- a free record stays as it is
-pub tick-free : (e : ℕ) (r : Record) → r .held ≡ false → record { after = r; reports = false } ≡ afterTick e r
-unfolding afterTick tickRecord tickReplies isHeld choose
-tick-free e r h = sym (ap (choose r (tickPhase e r (r .phase))) h)
+pub tick-free : (b : Bool) (e : ℕ) (r : Record) → r .held ≡ false → record { after = r; reports = false } ≡ afterTick b e r
+unfolding afterTick tickRecord tickReplies isHeld choose only
+tick-free b e r h = sym (ap (choose r (tickPhase b e r (r .phase))) h)
 
 -- a held one is what its phase comes to
-pub tick-held : (e : ℕ) (r : Record) (t : AfterTick) → r .held ≡ true → t ≡ afterHeld r (tickPhase e r (r .phase)) → t ≡ afterTick e r
+pub tick-held : (b : Bool) (e : ℕ) (r : Record) (t : AfterTick) → r .held ≡ true → t ≡ afterHeld r (tickPhase b e r (r .phase)) → t ≡ afterTick b e r
 unfolding afterTick tickRecord tickReplies afterHeld isHeld choose
-tick-held e r t h q = q ∙ sym (ap (choose r (tickPhase e r (r .phase))) h)
+tick-held b e r t h q = q ∙ sym (ap (choose r (tickPhase b e r (r .phase))) h)
 
--- ---- the reports
+-- ---- what is sent
 
--- what a tick sends is the record's report or nothing
-abbrev Sends : Record → Ticked → Type 0
-Sends r x = repliesOf x ≡ cond (anySent (repliesOf x)) (reportOf r ∷ []) []
+-- what a tick sends is the record's report, one confirmation, or nothing
+pub record Sends (r : Record) (ts : List Reply) : Type 0 where
+  pub report : only isReport ts ≡ cond (anySent (only isReport ts)) (reportOf r ∷ []) []
+  pub one : length (only isReport ts) + length (only isConfirmation ts) ≤ 1
 
--- a record that is kept with nothing sent
-sends-nothing : (r n : Record) → Sends r (stillHeld n [])
-unfolding repliesOf
-sends-nothing r n = refl
+sends-nothing : (r : Record) → Sends r []
+unfolding only
+sends-nothing r = record { report = refl; one = omega arith }
 
--- a record that is freed
-sends-free : (r : Record) → Sends r nowFree
-unfolding repliesOf
-sends-free r = refl
+sends-report : (r : Record) → Sends r (reportOf r ∷ [])
+unfolding only reportOf isReport isConfirmation
+sends-report r = record { report = refl; one = omega arith }
 
--- a record that reports
-sends-report : (r : Record) (n : ℕ) → Sends r (reports n r)
-unfolding repliesOf
-sends-report r n = refl
+sends-confirmation : (r : Record) (k x : ℕ) → Sends r (confirmation k x ∷ [])
+unfolding only isReport isConfirmation
+sends-confirmation r k x = record { report = refl; one = omega arith }
 
 -- one of two, by a test
-sends-either : (r : Record) (b : Bool) (x y : Ticked) → Sends r x → Sends r y → Sends r (cond b x y)
-sends-either r true x y f g = f
-sends-either r false x y f g = g
+sends-either : (r : Record) (g : Bool) (x y : Ticked) → Sends r (repliesOf x) → Sends r (repliesOf y) → Sends r (repliesOf (cond g x y))
+sends-either r true x y f h = f
+sends-either r false x y f h = h
 
--- each phase
-sends-phase : (e : ℕ) (r : Record) (p : Phase) → Sends r (tickPhase e r p)
-unfolding tickPhase
-sends-phase e r (Asked t) = sends-either r (leb t e) _ _ (sends-free r) (sends-nothing r _)
-sends-phase e r (Sounding t) = sends-either r (leb t e) _ _ (sends-either r (eqb (r .profiles) 0) _ _ (sends-free r) (sends-report r retryCount)) (sends-nothing r _)
-sends-phase e r (Reported t n) = sends-either r (leb t e) _ _ (sends-either r (eqb n 0) _ _ (sends-free r) (sends-report r (n - 1))) (sends-nothing r _)
-sends-phase e r (Awaiting t) = sends-either r (leb t e) _ _ (sends-free r) (sends-nothing r _)
+-- the end of a window
+sends-window : (g : Bool) (k : ℕ) (r : Record) → Sends r (repliesOf (windowEnds g k r))
+unfolding windowEnds repliesOf
+sends-window true k r = sends-confirmation r k _
+sends-window false k r = sends-confirmation r 0 _
 
--- the reports of a record, by whether it reports
-pub record Reporting (o : Configuration) (e : ℕ) (r : Record) : Type 0 where
-  pub frames : tickReports o e r ≡ cond (afterTick e r .reports) (frameTo o (r .car) (reportOf r) ∷ []) []
-  pub held : afterTick e r .reports ≡ true → isHeld r ≡ true
+-- each phase: it fires, or waits with nothing sent
+sends-fired : (b : Bool) (r : Record) (p : Phase) → Sends r (repliesOf (firedOf b r p))
+unfolding repliesOf
+sends-fired b r (Asked t) = sends-nothing r
+sends-fired b r (Sounding t) = sends-either r (eqb (r .profiles) 0) _ _ (sends-nothing r) (sends-report r)
+sends-fired b r (Reported t n) = sends-either r (eqb n 0) _ _ (sends-nothing r) (sends-report r)
+sends-fired b r (Awaiting t) = sends-nothing r
+sends-fired b r (Ready t) = sends-nothing r
+sends-fired b r (Counting t k g) = sends-window b k r
+sends-fired b r (Success t) = sends-nothing r
 
--- the frames of that report or of nothing
-one-frame : (o : Configuration) (r : Record) (b : Bool) → framesTo o (r .car) (cond b (reportOf r ∷ []) []) ≡ cond b (frameTo o (r .car) (reportOf r) ∷ []) []
+sends-phase : (b : Bool) (e : ℕ) (r : Record) (p : Phase) → Sends r (repliesOf (tickPhase b e r p))
+unfolding repliesOf
+sends-phase b e r p = subst (λ (x : Ticked). Sends r (repliesOf x)) (sym (by-time b e r p)) (sends-either r (leb (timeOf p) e) _ _ (sends-fired b r p) (sends-nothing r))
+
+-- held or free
+pub sends-tick : (b : Bool) (e : ℕ) (r : Record) → Sends r (tickReplies b e r)
+unfolding tickReplies
+sends-tick b e r = split (isHeld r) (λ h. rw h (sends-phase b e r (r .phase))) (λ h. rw h (sends-nothing r))
+
+-- the frames of one sort are those of its replies
+pub frames-sent : (p : Reply → Bool) (o : Configuration) (b : Bool) (e : ℕ) (r : Record) → tickFrames p o b e r ≡ framesTo o (r .car) (only p (tickReplies b e r))
+unfolding tickFrames tickReplies only
+frames-sent p o b e r = split (isHeld r) (λ h. rw h) (λ h. rw h)
+
+-- the report's frame or none
+one-frame : (o : Configuration) (r : Record) (g : Bool) → framesTo o (r .car) (cond g (reportOf r ∷ []) []) ≡ cond g (frameTo o (r .car) (reportOf r) ∷ []) []
 one-frame o r true = refl
 one-frame o r false = refl
 
--- by the phase, where the record is held
-pub reporting : (o : Configuration) (e : ℕ) (r : Record) → Reporting o e r
-unfolding afterTick tickReplies tickReports
-reporting o e r =
-    let x : List Reply = repliesOf (tickPhase e r (r .phase)) in
-    split (isHeld r)
-    (λ h. record {
-      frames = rw h (ap (framesTo o (r .car)) (sends-phase e r (r .phase)) ∙ one-frame o r (anySent x));
-      held = λ q. h;
-    })
-    (λ h. record {
-      frames = rw h refl;
-      held = λ q. clash (anySent (cond (isHeld r) x [])) q (ap (λ (b : Bool). anySent (cond b x [])) h);
-    })
+-- the report of a record, by whether it reports
+pub reporting : (o : Configuration) (b : Bool) (e : ℕ) (r : Record) → tickFrames isReport o b e r ≡ cond (afterTick b e r .reports) (frameTo o (r .car) (reportOf r) ∷ []) []
+unfolding afterTick
+reporting o b e r = frames-sent isReport o b e r ∙ ap (framesTo o (r .car)) (sends-tick b e r .report) ∙ one-frame o r (anySent (only isReport (tickReplies b e r)))
+
+-- a record that sends something is held
+pub sending-held : (p : Reply → Bool) (b : Bool) (e : ℕ) (r : Record) → anySent (only p (tickReplies b e r)) ≡ true → isHeld r ≡ true
+unfolding tickReplies only
+sending-held p b e r q = split (isHeld r) (λ h. h) (λ h. clash (anySent (only p (tickReplies b e r))) q (rw h))

@@ -3,3 +3,4 @@ pub mod Means
 pub mod Requests
 pub mod Places
 pub mod Timers
+pub mod Validation

@@ -1,16 +1,19 @@
 -- What the code's answers at a record say in the rules' words.
+use Prim.Native.Nat.{ℕ}
 use mathlib.Core.Path.{_≡_}
 use mathlib.Core.List.{[], _∷_}
 use Rattle.messages.specs.Answers.{numberOf}
 use Rattle.messages.specs.Reading.{Checked, no, yes}
 use Rattle.rules.specs.declared.Record.{Record}
-use Rattle.rules.specs.Frames.{Kept, keeps, startRule, soundRule, rspRule}
-use Rattle.rules.specs.Replies.{reportOf}
+use Rattle.rules.specs.Frames.{Kept, keeps, startRule, soundRule, rspRule, firstRule}
+use Rattle.ends.specs.Outcomes.{andThen}
+use Rattle.rules.specs.Replies.{confirmation, reportOf}
 use Rattle.records.specs.declared.requests.Effect.{Effect}
 use Rattle.records.specs.declared.requests.Effect.the-variants as effect
 use Rattle.records.specs.declared.requests.Kept as code
 use Rattle.records.specs.declared.requests.RunMessage.{RunMessage}
 use Rattle.records.specs.declared.requests.RunMessage.the-variants.{Start, Sound, Rsp}
+use Rattle.records.specs.declared.requests.Validated.{Validated}
 use Rattle.records.specs.declared.requests.Verdict.{Verdict}
 use Rattle.records.specs.declared.requests.Verdict.the-variants as verdict
 
@@ -40,3 +43,8 @@ runRule Rsp r = rspRule r (r .phase)
 abbrev pub verdictOf : Verdict → Checked (Unit {0})
 verdictOf (verdict.Refused x) = no (numberOf x)
 verdictOf verdict.Accepted = yes tt
+
+-- the whole promise of the first VALIDATE.REQ at the record r, with the result that it is answered
+pub record Validates (r : Record) (result : ℕ) (v : Validated) : Type 0 where
+  pub kept : v .kept ≡ recordAfter r (firstRule result r (r .phase))
+  pub replies : andThen (verdictOf (v .verdict)) (λ (x : Unit {0}). keeps (v .kept) (confirmation 0 result ∷ [])) ≡ firstRule result r (r .phase)

@@ -6,3 +6,4 @@ pub mod profiles;
 pub mod report;
 pub mod requests;
 pub mod timers;
+pub mod validation;

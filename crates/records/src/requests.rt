@@ -9,14 +9,17 @@ use messages::Refusal;
 use messages::RunId;
 use rules::AWAITING_TIME;
 use rules::Phase;
+use rules::READY_RESULT;
+use rules::READY_TIME;
 use rules::REPORTED_TIME;
 use rules::Record;
 use rules::SOUNDING_TIME;
+use rules::WINDOW_STEP;
 ghost use mathlib.Core.Path.{_≡_};
 ghost use mathlib.Core.List.{[], _∷_};
-ghost use Rattle.rules.specs.Frames.{startRule, soundRule, profileRule, rspRule, matchRule, atRun};
+ghost use Rattle.rules.specs.Frames.{startRule, soundRule, profileRule, rspRule, firstRule, secondRule, mayMatch, matchRule, atRun};
 ghost use Rattle.rules.specs.Invariant.{GoodRecord};
-ghost use Rattle.records.specs.Requests.{Keeps, runRule, verdictOf};
+ghost use Rattle.records.specs.Requests.{Keeps, Validates, runRule, verdictOf};
 
 // What follows a message at a record: a refusal, no reply, or the report of the record.
 pub enum Effect {
@@ -42,6 +45,12 @@ pub enum RunMessage {
 pub enum Verdict {
     Refused(Refusal),
     Accepted,
+}
+
+// The record after the first VALIDATE.REQ, unchanged where it is refused, and whether it is accepted.
+pub struct Validated {
+    pub kept: Record,
+    pub verdict: Verdict,
 }
 
 // START: Asked becomes Sounding; in Sounding nothing changes.
@@ -160,17 +169,75 @@ pub fn at_run(r: Record, run: RunId, message: RunMessage) -> Kept
     }
 }
 
-// MATCH.REQ of a run at the car's record: accepted in Awaiting.
+// The first VALIDATE.REQ in Awaiting, with the result that it is answered: the record is made ready, or stays as it is.
+pub fn validate_first(r: Record, result: u8) -> Validated
+    ensures { λ v. ⌜ Validates r result v ⌝ }
+{
+    let phase = r.phase;
+    let Phase::Awaiting(_) = phase else {
+        return Validated {
+            kept: r,
+            verdict: Verdict::Refused(Refusal::WrongPhase),
+        };
+    };
+    if result == READY_RESULT {
+        Validated {
+            kept: changes::in_phase(r, Phase::Ready(READY_TIME)),
+            verdict: Verdict::Accepted,
+        }
+    } else {
+        Validated {
+            kept: r,
+            verdict: Verdict::Accepted,
+        }
+    }
+}
+
+// The second VALIDATE.REQ in ready: toggles count, in a window that the timer sets.
+pub fn validate_second(r: Record, timer: u8) -> Kept
+    ensures { λ k. ⌜ Keeps r (secondRule timer r (r .phase)) k ⌝ }
+{
+    let phase = r.phase;
+    let Phase::Ready(_) = phase else {
+        return Kept {
+            kept: r,
+            effect: Effect::Refused(Refusal::WrongPhase),
+        };
+    };
+    let window = Phase::Counting {
+        left: WINDOW_STEP * (timer as u32 + 1),
+        toggles: 0,
+        begun: false,
+    };
+    Kept {
+        kept: changes::in_phase(r, window),
+        effect: Effect::NoReply,
+    }
+}
+
+// Whether MATCH.REQ is accepted in a phase: in Awaiting and in success.
+fn may_match(phase: Phase) -> bool
+    ensures { λ b. ⌜ b ≡ mayMatch phase ⌝ }
+{
+    match phase {
+        Phase::Awaiting(_) => true,
+        Phase::Success(_) => true,
+        _ => false,
+    }
+}
+
+// MATCH.REQ of a run at the car's record: accepted in Awaiting and in success.
 pub fn match_req(r: Record, run: RunId) -> Verdict
     ensures { λ v. ⌜ verdictOf v ≡ matchRule run (r ∷ []) ⌝ }
 {
     let own = r.run;
     if run.0 == own.0 {
         let phase = r.phase;
-        let Phase::Awaiting(_) = phase else {
-            return Verdict::Refused(Refusal::WrongPhase);
-        };
-        Verdict::Accepted
+        if may_match(phase) {
+            Verdict::Accepted
+        } else {
+            Verdict::Refused(Refusal::WrongPhase)
+        }
     } else {
         Verdict::Refused(Refusal::NoRecord)
     }

@@ -3,6 +3,7 @@ use ends::RETRIES;
 use rules::Phase;
 use rules::REPORTED_TIME;
 use rules::Record;
+use rules::SUCCESS_TIME;
 ghost use mathlib.Core.Path.{_≡_};
 ghost use mathlib.Core.Bool.{cond};
 ghost use Prim.Native.Nat.{_-_};
@@ -11,7 +12,7 @@ ghost use Rattle.ends.specs.Constants.{retryCount};
 ghost use Rattle.rules.specs.Records as records;
 ghost use Rattle.rules.specs.Records.{inPhase, owned};
 ghost use Rattle.rules.specs.Ticks as ticks;
-ghost use Rattle.rules.specs.Ticks.{nowFree, tickPhase};
+ghost use Rattle.rules.specs.Ticks.{runsOut, windowEnds, tickPhase};
 ghost use Rattle.records.specs.Timers.{afterTick, afterHeld, timeOf, withLeft, firedOf};
 
 // A record after a tick, and whether it reports.
@@ -20,12 +21,12 @@ pub struct AfterTick {
     pub reports: bool,
 }
 
-// A record after so many milliseconds: a free one stays as it is.
-pub fn tick_record(r: Record, elapsed: u32) -> AfterTick
-    ensures { λ t. ⌜ t ≡ afterTick elapsed r ⌝ }
+// A record after so many milliseconds, by whether the pilot is back at B: a free one stays as it is.
+pub fn tick_record(r: Record, elapsed: u32, back: bool) -> AfterTick
+    ensures { λ t. ⌜ t ≡ afterTick back elapsed r ⌝ }
 {
     if r.held {
-        tick_held(r, elapsed)
+        tick_held(r, elapsed, back)
     } else {
         AfterTick {
             after: r,
@@ -35,13 +36,13 @@ pub fn tick_record(r: Record, elapsed: u32) -> AfterTick
 }
 
 // A held record: its phase's time fires where nothing of it is left, and runs down else.
-fn tick_held(r: Record, elapsed: u32) -> AfterTick
-    ensures { λ t. ⌜ t ≡ afterHeld r (tickPhase elapsed r (r .phase)) ⌝ }
+fn tick_held(r: Record, elapsed: u32, back: bool) -> AfterTick
+    ensures { λ t. ⌜ t ≡ afterHeld r (tickPhase back elapsed r (r .phase)) ⌝ }
 {
     let phase = r.phase;
     let left = ends::left_after(time_of(phase), elapsed);
     if left == 0 {
-        fired(r)
+        fired(r, back)
     } else {
         wait(r, with_left(phase, left))
     }
@@ -56,6 +57,13 @@ pub fn time_of(phase: Phase) -> u32
         Phase::Sounding(time) => time,
         Phase::Reported { left, retries: _ } => left,
         Phase::Awaiting(time) => time,
+        Phase::Ready(time) => time,
+        Phase::Counting {
+            left,
+            toggles: _,
+            begun: _,
+        } => left,
+        Phase::Success(time) => time,
     }
 }
 
@@ -71,12 +79,23 @@ fn with_left(phase: Phase, left: u32) -> Phase
             retries: retries,
         },
         Phase::Awaiting(_) => Phase::Awaiting(left),
+        Phase::Ready(_) => Phase::Ready(left),
+        Phase::Counting {
+            left: _,
+            toggles,
+            begun,
+        } => Phase::Counting {
+            left: left,
+            toggles: toggles,
+            begun: begun,
+        },
+        Phase::Success(_) => Phase::Success(left),
     }
 }
 
 // A held record whose phase's time has fired.
-fn fired(r: Record) -> AfterTick
-    ensures { λ t. ⌜ t ≡ afterHeld r (firedOf r (r .phase)) ⌝ }
+fn fired(r: Record, back: bool) -> AfterTick
+    ensures { λ t. ⌜ t ≡ afterHeld r (firedOf back r (r .phase)) ⌝ }
 {
     let phase = r.phase;
     match phase {
@@ -84,12 +103,19 @@ fn fired(r: Record) -> AfterTick
         Phase::Sounding(_) => first_report(r),
         Phase::Reported { left: _, retries } => next_report(r, retries),
         Phase::Awaiting(_) => free(r),
+        Phase::Ready(_) => free(r),
+        Phase::Counting {
+            left: _,
+            toggles,
+            begun: _,
+        } => window_over(r, toggles, back),
+        Phase::Success(_) => free(r),
     }
 }
 
 // Sounding's time has fired: freed if no profile is counted, else the report.
 fn first_report(r: Record) -> AfterTick
-    ensures { λ t. ⌜ t ≡ afterHeld r (cond (eqb (r .profiles) 0) nowFree (ticks.reports retryCount r)) ⌝ }
+    ensures { λ t. ⌜ t ≡ afterHeld r (cond (eqb (r .profiles) 0) runsOut (ticks.reports retryCount r)) ⌝ }
 {
     if r.profiles == 0 {
         free(r)
@@ -100,7 +126,7 @@ fn first_report(r: Record) -> AfterTick
 
 // Reported's time has fired: freed if no retry is left, else the report again.
 fn next_report(r: Record, retries: u8) -> AfterTick
-    ensures { λ t. ⌜ t ≡ afterHeld r (cond (eqb retries 0) nowFree (ticks.reports (retries - 1) r)) ⌝ }
+    ensures { λ t. ⌜ t ≡ afterHeld r (cond (eqb retries 0) runsOut (ticks.reports (retries - 1) r)) ⌝ }
 {
     if retries == 0 {
         free(r)
@@ -109,9 +135,20 @@ fn next_report(r: Record, retries: u8) -> AfterTick
     }
 }
 
+// The window has ended: success where the pilot is back at B, else freed.
+fn window_over(r: Record, toggles: u8, back: bool) -> AfterTick
+    ensures { λ t. ⌜ t ≡ afterHeld r (windowEnds back toggles r) ⌝ }
+{
+    if back {
+        wait(r, Phase::Success(SUCCESS_TIME))
+    } else {
+        free(r)
+    }
+}
+
 // The record freed, with no report.
 fn free(r: Record) -> AfterTick
-    ensures { λ t. ⌜ t ≡ afterHeld r nowFree ⌝ }
+    ensures { λ t. ⌜ t ≡ afterHeld r runsOut ⌝ }
 {
     let after = freed(r);
     AfterTick {

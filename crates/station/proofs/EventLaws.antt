@@ -21,6 +21,7 @@ use Rattle.rules.specs.Calls.{pilot, terminate, linkUp}
 use Rattle.rules.specs.Records.{freed}
 use Rattle.rules.specs.Stations.{Shared, shared, inner, done}
 use Rattle.rules.specs.Events.{plugged, ended, pilotDone, linkRule}
+use Rattle.rules.specs.Validation.{turn, toggledRecord}
 use Rattle.rules.specs.Rules.{rule, takesPilot, sharedStep}
 use Rattle.rules.proofs.State as state
 use Rattle.ends.proofs.Logic.{split}
@@ -45,7 +46,7 @@ module _ (s : Station) (g : s .config .good ≡ true) where
   pilot-shared p t = ap (λ (b : Bool). cond b (takesPilot p t (shared s)) (shared s)) g
 
   -- and to the rest
-  pub pilot-rule : (p : Pilot) (t : ℕ) → rule (shared s) (inner s) (pilot p t) ≡ yes (pilotDone (plugged (s .pilot)) (plugged p) (inner s))
+  pub pilot-rule : (p : Pilot) (t : ℕ) → rule (shared s) (inner s) (pilot p t) ≡ yes (pilotDone (plugged (s .pilot)) (plugged p) (turn (s .pilot) p) (inner s))
   unfolding rule
   pilot-rule p t = pass (s .config .good) 16 _ g
 
@@ -81,19 +82,19 @@ all-freed s p t st free x y n r ef ex en er = no-frames s p t st (map freed (s .
 module _ (s : Station) (p : Pilot) (t : ℕ) (r : Stepped) where
   -- what a pilot change gives
   abbrev Changes : Type 0
-  Changes = Gives (takesPilot p t (shared s)) (pilotDone (plugged (s .pilot)) (plugged p) (inner s)) [] [] r
+  Changes = Gives (takesPilot p t (shared s)) (pilotDone (plugged (s .pilot)) (plugged p) (turn (s .pilot) p) (inner s)) [] [] r
 
   -- by the two places
-  changes : (was is : Bool) → plugged (s .pilot) ≡ was → plugged p ≡ is → Gives (sharedAs s p (cond (was && is) (s .clock) t)) (pilotDone was is (inner s)) [] [] r → Changes
+  changes : (was is : Bool) → plugged (s .pilot) ≡ was → plugged p ≡ is → Gives (sharedAs s p (cond (was && is) (s .clock) t)) (pilotDone was is (turn (s .pilot) p) (inner s)) [] [] r → Changes
   unfolding takesPilot
   changes was is a b g =
       gives-as _ _ _ _ [] [] r
       (sym (ap₂ (λ (x y : Bool). sharedAs s p (cond (x && y) (s .clock) t)) a b))
-      (sym (ap₂ (λ (x y : Bool). pilotDone x y (inner s)) a b))
+      (sym (ap₂ (λ (x y : Bool). pilotDone x y (turn (s .pilot) p) (inner s)) a b))
       g
 
   -- from B, C or D to B, C or D
-  pub stays : plugged (s .pilot) ≡ true → plugged p ≡ true → Gives (sharedAs s p (s .clock)) (done (s .state) (s .records) [] Nothing) [] [] r → Changes
+  pub stays : plugged (s .pilot) ≡ true → plugged p ≡ true → Gives (sharedAs s p (s .clock)) (done (s .state) (map (toggledRecord (turn (s .pilot) p)) (s .records)) [] Nothing) [] [] r → Changes
   unfolding pilotDone
   stays a b g = changes true true a b g
 

@@ -8,6 +8,10 @@ pub mod MatchLaws
 pub mod KeptLaws
 pub mod EventLaws
 pub mod ReportLaws
+pub mod SentLoopLaws
+pub mod BothLaws
 pub mod TickLoopLaws
+pub mod ConfirmLaws
+pub mod ResultLaws
 pub mod HeldLaws
 pub mod TickLaws

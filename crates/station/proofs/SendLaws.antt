@@ -8,13 +8,13 @@ use borrow.Author.Tests.{lt-ltb}
 use lib.ListN.{length, length-map, length-replicate}
 use Rattle.messages.specs.declared.CarAddress.{CarAddress}
 use Rattle.messages.specs.declared.Message.{Message}
-use Rattle.messages.specs.declared.Message.the-variants.{SlacParmCnf, AttenCharInd, SlacMatchCnf}
+use Rattle.messages.specs.declared.Message.the-variants.{SlacParmCnf, AttenCharInd, ValidateCnf, SlacMatchCnf}
 use Rattle.messages.specs.declared.RunId.{RunId}
 use Rattle.messages.specs.Answers.{messageOf}
 use Rattle.octets.specs.Octets.{splice}
 use Rattle.messages.specs.Reading.{yes, noGroups}
 use Rattle.messages.specs.Table as table
-use Rattle.messages.specs.Table.{groupCount, isUnicast, writtenSize}
+use Rattle.messages.specs.Table.{groupCount, isUnicast, resultLimit, writtenSize}
 use Rattle.messages.specs.Writing.{frame, isAddressed, isLimited}
 use Rattle.messages.proofs.WriteLaws.{Typed, headIn, headed}
 use Rattle.rules.specs.declared.Configuration.{Configuration}
@@ -23,7 +23,7 @@ use Rattle.rules.specs.declared.Record.{Record}
 use Rattle.rules.specs.declared.State.{State}
 use Rattle.rules.specs.declared.Station.{Station}
 use Rattle.rules.specs.Constants.{leastOutput}
-use Rattle.rules.specs.Replies.{mean, parmCnf, matchCnf, reportOf, messageTo}
+use Rattle.rules.specs.Replies.{mean, parmCnf, matchCnf, confirmation, reportOf, messageTo}
 use Rattle.rules.specs.Stations.{done}
 use Rattle.ends.specs.declared.Answer.{Answer}
 use Rattle.ends.specs.Answers.{summary}
@@ -64,6 +64,15 @@ module _ (o : Configuration) (c : CarAddress) (n : ℕ) (us : isUnicast (o .addr
   report-writable r u k l h = record {
     addressed = to-car;
     limited = sym (fitting (AttenCharInd (o .address) c (r .run) (r .profiles)) (map (mean (r .profiles)) (r .sums)) (u, k) (length-map (r .sums) (mean (r .profiles)) ∙ l) to-car);
+    room = h;
+  }
+
+  -- VALIDATE.CNF
+  pub validate-cnf-writable : (k x : ℕ) → k < 2 ^ 8 → x < resultLimit → writtenSize table.validateCnf ≤ n → Writable (messageTo o c (confirmation k x)) n
+  unfolding noGroups
+  validate-cnf-writable k x u l h = record {
+    addressed = to-car;
+    limited = sym (fitting (ValidateCnf (o .address) k c x) noGroups (u, omega arith) (length-replicate {A = ℕ} groupCount 0) to-car) ∙ lt-ltb x resultLimit l;
     room = h;
   }
 

@@ -24,7 +24,7 @@ use Rattle.rules.specs.Invariant.{Invariant, OctetCall}
 use Rattle.ends.specs.Answers.{Summary, answerOf, summary}
 use Rattle.rules.specs.Answers.{Answers}
 use Rattle.rules.proofs.Refusals.{refused-station, refused-output}
-use Rattle.rules.proofs.ReachableHolds.{bad-refuses}
+use Rattle.rules.proofs.Refusals.{bad-refuses}
 use Rattle.rules.proofs.InvariantKept.{step-keeps}
 use Rattle.station.specs.Steps.{refusedAs, doneAs, sharedAs, anew, Gives}
 

@@ -10,7 +10,8 @@ use Rattle.octets.specs.Octets.{splice}
 use Rattle.messages.specs.Reading.{Checked, no, yes}
 use Rattle.messages.specs.Table.{isUnicast}
 use Rattle.ends.specs.declared.Indication.the-variants.{Nothing}
-use Rattle.rules.specs.declared.State.the-variants.{Joining}
+use Rattle.rules.specs.declared.State.{State}
+use Rattle.rules.specs.declared.State.the-variants.{Unmatched, Matching, Joining, Matched}
 use Rattle.rules.specs.declared.Station.{Station}
 use Rattle.rules.specs.declared.Stepped.{Stepped}
 use Rattle.ends.specs.Constants.{joiningTime}
@@ -22,6 +23,8 @@ use Rattle.rules.specs.Replies.{framesTo}
 use Rattle.rules.specs.Frames.{Kept, matchRule, confirmed}
 use Rattle.rules.specs.Invariant.{GoodRecord, Invariant}
 use Rattle.ends.specs.Answers.{answerOf, summary}
+use Rattle.records.specs.declared.find.Found.{Found}
+use Rattle.records.specs.declared.find.Found.the-variants as found
 
 -- a reply to car c can be sent
 pub record Ready (s : Station) (c : CarAddress) (out : List ℕ) : Type 0 where
@@ -40,6 +43,15 @@ pub record Comes (s : Station) (x : Checked Done) (entry exit : List ℕ) (r : S
 abbrev pub KeepsGood : CarAddress → Checked Kept → Type 0
 KeepsGood c (no n) = Unit {0}
 KeepsGood c (yes k) = GoodRecord (owned c (k .kept))
+
+-- where a car's own record stands: 8, then 11
+unfoldable pub ownPlace : State → Found → Checked ℕ
+ownPlace Unmatched p = no 8
+ownPlace (Matching a) (found.Own i) = yes i
+ownPlace (Matching a) (found.Free i) = no 11
+ownPlace (Matching a) found.Nothing = no 11
+ownPlace (Joining l c run) p = no 8
+ownPlace Matched p = no 8
 
 -- car c's record back at place i, and its replies
 abbrev pub settled : Station → ℕ → CarAddress → Checked Kept → Checked Done

@@ -15,22 +15,23 @@ pub(crate) struct TickedRecords {
     pub reports: usize,
 }
 
-// Every record after so many milliseconds; the reports stand back to back in record order.
+// Every record after so many milliseconds, by whether the pilot is back at B; the reports stand back to back in record order.
 pub(crate) fn tick_all(
     records: RecordArray,
     elapsed: u32,
+    back: bool,
     config: Configuration,
     out: &mut [u8],
 ) -> TickedRecords
     requires { ⌜ Ready config records (now out) ⌝ }
-    ensures { λ t. ⌜ Ticks config elapsed records (now (out .entry)) (now (out .exit)) t ⌝ }
+    ensures { λ t. ⌜ Ticks config back elapsed records (now (out .entry)) (now (out .exit)) t ⌝ }
 {
     let mut after = records;
     let mut sent: usize = 0;
     let mut i: usize = 0;
     while i < RECORDS {
         let r = records[i];
-        let t = timers::tick_record(r, elapsed);
+        let t = timers::tick_record(r, elapsed, back);
         let next = t.after;
         after[i] = next;
         if t.reports {

@@ -1,7 +1,9 @@
 // Pilot, terminate and link up, in a station that is well configured.
 use crate::answers;
 use crate::freeing;
+use crate::validating;
 use ends::Indication;
+use records::validation;
 use rules::ADMISSION_TIME;
 use rules::Pilot;
 use rules::State;
@@ -13,6 +15,7 @@ ghost use Rattle.rules.specs.Events as rule;
 ghost use Rattle.rules.specs.Events.{ended, pilotDone};
 ghost use Rattle.rules.specs.Stations.{shared, inner, done};
 ghost use Rattle.rules.specs.Rules.{takesPilot};
+ghost use Rattle.rules.specs.Validation.{turn};
 ghost use Rattle.station.specs.Steps.{Gives, sharedAs};
 
 // Whether the pilot is at B, C or D.
@@ -24,6 +27,20 @@ fn plugged(pilot: Pilot) -> bool
         Pilot::B => true,
         Pilot::C => true,
         Pilot::D => true,
+        Pilot::E => false,
+        Pilot::F => false,
+    }
+}
+
+// Whether the pilot is at B.
+pub(crate) fn is_b(pilot: Pilot) -> bool
+    ensures { λ b. ⌜ b ≡ rule.isB pilot ⌝ }
+{
+    match pilot {
+        Pilot::A => false,
+        Pilot::B => true,
+        Pilot::C => false,
+        Pilot::D => false,
         Pilot::E => false,
         Pilot::F => false,
     }
@@ -57,16 +74,17 @@ pub(crate) fn end(station: Station, pilot: Pilot, clock: u32) -> Stepped
     answers::without_frames(next, indication)
 }
 
-// A pilot change: a plug-in, one among B, C and D, or a loss.
+// A pilot change: a plug-in, one among B, C and D, which may begin or end a toggle, or a loss.
 pub(crate) fn change(station: Station, pilot: Pilot, reading: u32) -> Stepped
-    ensures { λ r. ⌜ Gives (takesPilot pilot reading (shared station)) (pilotDone (rule.plugged (station .pilot)) (rule.plugged pilot) (inner station)) [] [] r ⌝ }
+    ensures { λ r. ⌜ Gives (takesPilot pilot reading (shared station)) (pilotDone (rule.plugged (station .pilot)) (rule.plugged pilot) (turn (station .pilot) pilot) (inner station)) [] [] r ⌝ }
 {
     let last = station.pilot;
     let state = station.state;
     let records = station.records;
     if plugged(pilot) {
         if plugged(last) {
-            let next = answers::anew(station, pilot, station.clock, state, records);
+            let toggled = validating::toggle_all(records, validation::turn_of(last, pilot));
+            let next = answers::anew(station, pilot, station.clock, state, toggled);
             answers::without_frames(next, Indication::Nothing)
         } else {
             let free = freeing::free_all(records);

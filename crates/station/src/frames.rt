@@ -2,6 +2,7 @@
 use crate::answers;
 use crate::freeing;
 use crate::sending;
+use crate::validating;
 use ends::Indication;
 use ends::JOINING_TIME;
 use messages::CarAddress;
@@ -17,6 +18,7 @@ use records::find::Found;
 use records::requests;
 use records::requests::Effect;
 use records::requests::Kept;
+use records::requests::Validated;
 use records::requests::Verdict;
 use rules::Record;
 use rules::RecordArray;
@@ -29,13 +31,17 @@ ghost use mathlib.Core.List.{[], _∷_};
 ghost use lib.ListN.{length, set};
 ghost use Rattle.messages.specs.Reading.{yes, groupsOf, readRules};
 ghost use Rattle.rules.specs.Records.{owned, fresh};
-ghost use Rattle.rules.specs.Received.{forRecord, parmReq, matchReq};
-ghost use Rattle.rules.specs.Frames.{stateRule};
-ghost use Rattle.rules.specs.Replies.{parmCnf, framesTo};
+ghost use Rattle.rules.specs.Received.{forRecord, parmReq, validateFirst, matchReq};
+ghost use Rattle.rules.specs.Frames.{keeps, stateRule};
+ghost use Rattle.rules.specs.Replies.{parmCnf, confirmation, framesTo};
 ghost use Rattle.rules.specs.Stations.{done};
-ghost use Rattle.records.specs.Requests.{effectOf};
+ghost use Rattle.ends.specs.Outcomes.{andThen};
+ghost use Rattle.messages.specs.Table.{resultLimit};
+ghost use Rattle.records.specs.Places.{placeOf};
+ghost use Rattle.records.specs.Requests.{effectOf, verdictOf};
+ghost use Rattle.receiving.specs.AtRecord.{admissionOf};
 ghost use Rattle.receiving.specs.Judge.{requestOf, ownMessageOf};
-ghost use Rattle.station.specs.Frames.{Ready, Comes, KeepsGood, settled, joinRule};
+ghost use Rattle.station.specs.Frames.{Ready, Comes, KeepsGood, settled, ownPlace, joinRule};
 
 // The records with another one at place i.
 fn with_record(records: RecordArray, i: usize, r: Record) -> RecordArray
@@ -101,7 +107,21 @@ fn settle(station: Station, i: usize, car: CarAddress, kept: Kept, out: &mut [u8
     }
 }
 
-// A message at the car's own record: 11 where it has none.
+// Where the car's own record stands: 8 where the state takes no message at a record, 11 where the car has none.
+fn own_place(state: State, records: RecordArray, car: CarAddress) -> Admission
+    ensures { λ a. ⌜ admissionOf a ≡ ownPlace state (placeOf car records) ⌝ }
+{
+    let State::Matching(_) = state else {
+        return Admission::Refused(Refusal::WrongState);
+    };
+    let found = records::find::find(records, car);
+    match found {
+        Found::Own(i) => Admission::At(i),
+        _ => Admission::Refused(Refusal::NoRecord),
+    }
+}
+
+// A message at the car's own record.
 fn at_own(
     station: Station,
     car: CarAddress,
@@ -113,17 +133,60 @@ fn at_own(
     ensures { λ r. ⌜ Comes station (stateRule (station .config) (station .state) (station .records) car (forRecord (ownMessageOf message (groupsOf (readRules (now (octets .entry))))))) (now (out .entry)) (now (out .exit)) r ⌝ }
 {
     let state = station.state;
-    let State::Matching(_) = state else {
-        return answers::refused(station, Refusal::WrongState);
-    };
     let records = station.records;
-    let found = records::find::find(records, car);
-    let Found::Own(i) = found else {
-        return answers::refused(station, Refusal::NoRecord);
-    };
-    let r = records[i];
-    let kept = own_record::at_record(r, message, octets);
-    settle(station, i, car, kept, out)
+    let place = own_place(state, records, car);
+    match place {
+        Admission::At(i) => {
+            let r = records[i];
+            let kept = own_record::at_record(r, message, octets);
+            settle(station, i, car, kept, out)
+        }
+        Admission::Refused(refusal) => answers::refused(station, refusal),
+    }
+}
+
+// What the first VALIDATE.REQ at the record at place i comes to: a refusal, or the record put back and VALIDATE.CNF.
+fn confirm(
+    station: Station,
+    i: usize,
+    car: CarAddress,
+    validated: Validated,
+    result: u8,
+    out: &mut [u8],
+) -> Stepped
+    requires { ⌜ (i < length (station .records)) × (Ready station car (now out) × (result < resultLimit)) ⌝ }
+    ensures { λ r. ⌜ Comes station (settled station i car (andThen (verdictOf (validated .verdict)) (λ (x : Unit {0}). keeps (validated .kept) (confirmation 0 result ∷ [])))) (now (out .entry)) (now (out .exit)) r ⌝ }
+{
+    let left = validated.kept;
+    let verdict = validated.verdict;
+    let records = station.records;
+    match verdict {
+        Verdict::Refused(refusal) => answers::refused(station, refusal),
+        Verdict::Accepted => {
+            let next = with_record(records, i, changes::owned(car, left));
+            sending::validate_cnf(station, next, car, result, out)
+        }
+    }
+}
+
+// The first VALIDATE.REQ at the car's own record: answered by whether any record is ready or counting.
+fn validate_first(station: Station, car: CarAddress, out: &mut [u8]) -> Stepped
+    requires { ⌜ Ready station car (now out) ⌝ }
+    ensures { λ r. ⌜ Comes station (stateRule (station .config) (station .state) (station .records) car (forRecord validateFirst)) (now (out .entry)) (now (out .exit)) r ⌝ }
+{
+    let config = station.config;
+    let state = station.state;
+    let records = station.records;
+    let place = own_place(state, records, car);
+    match place {
+        Admission::At(i) => {
+            let r = records[i];
+            let result = validating::first_result(config.exempt, records);
+            let validated = requests::validate_first(r, result);
+            confirm(station, i, car, validated, result, out)
+        }
+        Admission::Refused(refusal) => answers::refused(station, refusal),
+    }
 }
 
 // MATCH.REQ in Matching: the car joins, and all records are freed.
@@ -189,6 +252,10 @@ pub(crate) fn accept(
     match request {
         Request::Parm(run) => parm_req(station, car, run, out),
         Request::Own(message) => at_own(station, car, message, octets, out),
+        Request::ValidateFirst => validate_first(station, car, out),
+        Request::ValidateSecond(timer) => {
+            at_own(station, car, OwnMessage::ValidateSecond(timer), octets, out)
+        }
         Request::Match(run) => match_req(station, car, run, out),
     }
 }

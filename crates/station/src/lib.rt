@@ -1,12 +1,14 @@
 // A charging station's calls, by value: each gives the station afterwards and an answer.
 mod all_records;
 mod answers;
+mod confirming;
 mod events;
 mod frames;
 mod freeing;
 mod reports;
 mod sending;
 mod ticks;
+mod validating;
 
 use ends::TickTime;
 use messages::Refusal;
@@ -36,7 +38,7 @@ pub fn frame(station: Station, octets: &[u8], out: &mut [u8]) -> Stepped
     }
 }
 
-// A tick: the clock reads so much. The reports stand back to back from the first octet of the output.
+// A tick: the clock reads so much. The reports stand back to back from the first octet of the output, the confirmations behind them.
 pub fn tick(station: Station, reading: u32, out: &mut [u8]) -> Stepped
     requires { ⌜ Invariant station ⌝ }
     ensures { λ r. ⌜ Answers station (calls.tick reading (length (now (out .entry)))) (now (out .entry)) (now (out .exit)) r ⌝ }

@@ -13,12 +13,14 @@ use rules::State;
 use rules::Station;
 use rules::Stepped;
 ghost use mathlib.Core.List.{[], _∷_};
+ghost use Prim.Native.Nat.{_<_};
 ghost use lib.ListN.{length};
 ghost use Rattle.messages.specs.Answers.{messageOf};
 ghost use Rattle.messages.specs.Reading.{yes};
+ghost use Rattle.messages.specs.Table.{resultLimit};
 ghost use Rattle.messages.specs.Writing as writing;
 ghost use Rattle.rules.specs.Invariant.{GoodRecord};
-ghost use Rattle.rules.specs.Replies.{parmCnf, matchCnf, reportOf, framesTo};
+ghost use Rattle.rules.specs.Replies.{parmCnf, matchCnf, confirmation, reportOf, framesTo};
 ghost use Rattle.rules.specs.Stations.{done};
 ghost use Rattle.ends.specs.Sending.{Writable};
 ghost use Rattle.station.specs.Frames.{Ready, Comes};
@@ -76,6 +78,23 @@ pub(crate) fn report(
     let state = station.state;
     let message = reply::report(config, car, r);
     sent(station, state, records, message, report::values(r), out)
+}
+
+// VALIDATE.CNF with a result and no toggles to a car, with the records after it.
+pub(crate) fn validate_cnf(
+    station: Station,
+    records: RecordArray,
+    car: CarAddress,
+    result: u8,
+    out: &mut [u8],
+) -> Stepped
+    requires { ⌜ Ready station car (now out) × (result < resultLimit) ⌝ }
+    ensures { λ r. ⌜ Comes station (yes (done (station .state) records (framesTo (station .config) car (confirmation 0 result ∷ [])) Indication.Nothing)) (now (out .entry)) (now (out .exit)) r ⌝ }
+{
+    let config = station.config;
+    let state = station.state;
+    let message = reply::validate_cnf(config, car, 0, result);
+    sent(station, state, records, message, messages::no_groups(), out)
 }
 
 // MATCH.CNF to a car, with the state and the records after it.

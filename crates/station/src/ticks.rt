@@ -1,12 +1,16 @@
 // A tick in each state of a station that is well configured.
 use crate::all_records;
 use crate::answers;
+use crate::confirming;
+use crate::events;
 use ends::Indication;
+use rules::CONFIRMATION_OCTETS;
 use rules::REPORT_OCTETS;
 use rules::State;
 use rules::Station;
 use rules::Stepped;
 ghost use mathlib.Core.Path.{_≡_};
+ghost use Rattle.rules.specs.Events.{isB};
 ghost use Rattle.rules.specs.Ticks.{tickDone};
 ghost use Rattle.station.specs.Steps.{doneAs, sharedAs, anew, Gives};
 ghost use Rattle.station.specs.Reports.{Ready};
@@ -14,7 +18,7 @@ ghost use Rattle.station.specs.Reports.{Ready};
 // What so many milliseconds come to in the station's state.
 pub(crate) fn run(station: Station, reading: u32, elapsed: u32, out: &mut [u8]) -> Stepped
     requires { ⌜ Ready (station .config) (station .records) (now out) ⌝ }
-    ensures { λ r. ⌜ Gives (sharedAs station (station .pilot) reading) (tickDone (station .config) elapsed (station .state) (station .records)) (now (out .entry)) (now (out .exit)) r ⌝ }
+    ensures { λ r. ⌜ Gives (sharedAs station (station .pilot) reading) (tickDone (station .config) (isB (station .pilot)) elapsed (station .state) (station .records)) (now (out .entry)) (now (out .exit)) r ⌝ }
 {
     let state = station.state;
     match state {
@@ -58,16 +62,19 @@ fn read(station: Station, reading: u32, state: State, indication: Indication) ->
 // Matching: each record's time, then admission's; closed with no record held, the station is Unmatched.
 fn matching(station: Station, reading: u32, elapsed: u32, time: u32, out: &mut [u8]) -> Stepped
     requires { ⌜ Ready (station .config) (station .records) (now out) ⌝ }
-    ensures { λ r. ⌜ Gives (sharedAs station (station .pilot) reading) (tickDone (station .config) elapsed (State.Matching time) (station .records)) (now (out .entry)) (now (out .exit)) r ⌝ }
+    ensures { λ r. ⌜ Gives (sharedAs station (station .pilot) reading) (tickDone (station .config) (isB (station .pilot)) elapsed (State.Matching time) (station .records)) (now (out .entry)) (now (out .exit)) r ⌝ }
 {
     let config = station.config;
     let pilot = station.pilot;
     let records = station.records;
-    let ticked = all_records::tick_all(records, elapsed, config, out);
+    let back = events::is_b(pilot);
+    let ticked = all_records::tick_all(records, elapsed, back, config, out);
     let after = ticked.records;
-    let sent = ticked.reports;
-    let octets = REPORT_OCTETS * sent;
-    let frames = sent as u8;
+    let reports = ticked.reports;
+    let from = REPORT_OCTETS * reports;
+    let confirmed = confirming::confirm_all(records, elapsed, back, config, &mut out[from..]);
+    let octets = from + CONFIRMATION_OCTETS * confirmed;
+    let frames = (reports + confirmed) as u8;
     let left = ends::left_after(time, elapsed);
     let none = all_records::none_held(after);
     if (left == 0) & none {

@@ -1,6 +1,9 @@
 -- `receiving::judge::addressed` meets its contract, by the message.
+use Rattle.messages.specs.declared.Message.{Message}
+use Rattle.messages.specs.Answers.{messageOf}
+use Rattle.receiving.specs.Judge.{addressedRule}
 use Rattle.receiving.proofs.JudgeLaws.{addressed-as, only-cars}
-use mathlib.Core.Path.{refl}
+use mathlib.Core.Path.{refl, sym, ap, _∙_}
 use borrow.Author.Needs.{needs}
 use Rattle.receiving.proofs.judge.addressed.Statement.{statement}
 use Rattle.receiving.proofs.judge.addressed.Tie as tie
@@ -41,11 +44,17 @@ for-us-requires-4 c κs = search needs
 enum-known-message-5 : tie.Need-enum-known-message-5
 enum-known-message-5 c = search needs
 
-for-us-requires-5 : tie.Need-for-us-requires-5
-for-us-requires-5 c κs = search needs
+validate-req-requires : tie.Need-validate-req-requires
+validate-req-requires c κs = search needs
 
 enum-known-message-6 : tie.Need-enum-known-message-6
 enum-known-message-6 c = search needs
+
+for-us-requires-5 : tie.Need-for-us-requires-5
+for-us-requires-5 c κs = search needs
+
+enum-known-message-7 : tie.Need-enum-known-message-7
+enum-known-message-7 c = search needs
 
 for-us-requires-6 : tie.Need-for-us-requires-6
 for-us-requires-6 c κs = search needs
@@ -71,17 +80,20 @@ returns-4 c =
     addressed-as (a .config) _ _ _ _ (a .message) _ _ (c .for-us4 .ensures) (c .before .of-run3 .ensures) (c .before .before .before .before .before .message4 .given .1) (λ g. refl)
 
 returns-5 : tie.Need-returns-5
-returns-5 c =
-    let a = c .before .before .before .before .before .before .before .before .args in
-    addressed-as (a .config) _ _ _ _ (a .message) _ _ (c .for-us5 .ensures) refl (c .before .before .before .before .message5 .given .1) (λ g. refl)
+returns-5 c = λ g. c .validate-req .ensures g ∙ sym (ap (λ (m : Message). addressedRule (c .before .before .before .before .before .before .args .config) (messageOf m g)) (c .before .before .message5 .given .1))
 
 returns-6 : tie.Need-returns-6
 returns-6 c =
-    let a = c .before .before .before .before .before .before .before .before .before .before .args in
-    addressed-as (a .config) _ _ _ _ (a .message) _ _ (c .for-us6 .ensures) refl (c .before .before .before .before .before .before .message6 .given .1) (λ g. refl)
+    let a = c .before .before .before .before .before .before .before .before .args in
+    addressed-as (a .config) _ _ _ _ (a .message) _ _ (c .for-us5 .ensures) refl (c .before .before .before .before .message6 .given .1) (λ g. refl)
 
 returns-7 : tie.Need-returns-7
-returns-7 c = λ g. only-cars (c .before .before .before .args .config) (c .before .before .before .args .message) g (c .match .keys7)
+returns-7 c =
+    let a = c .before .before .before .before .before .before .before .before .before .before .args in
+    addressed-as (a .config) _ _ _ _ (a .message) _ _ (c .for-us6 .ensures) refl (c .before .before .before .before .before .before .message7 .given .1) (λ g. refl)
+
+returns-8 : tie.Need-returns-8
+returns-8 c = λ g. only-cars (c .before .before .before .args .config) (c .before .before .before .args .message) g (c .match .keys8)
 
 pub addressed-spec : {M : Type 1} → statement M
 addressed-spec =
@@ -99,8 +111,10 @@ addressed-spec =
     of-run-requires-3
     for-us-requires-4
     enum-known-message-5
-    for-us-requires-5
+    validate-req-requires
     enum-known-message-6
+    for-us-requires-5
+    enum-known-message-7
     for-us-requires-6
     returns
     returns-2
@@ -108,4 +122,5 @@ addressed-spec =
     returns-4
     returns-5
     returns-6
-    returns-7)
+    returns-7
+    returns-8)

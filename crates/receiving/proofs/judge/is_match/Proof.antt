@@ -1,8 +1,8 @@
 -- `receiving::judge::is_match` meets its contract, by the request.
 use Rattle.receiving.specs.Judge.{isMatch, requestOf}
 use Rattle.receiving.specs.declared.judge.Request.{Request}
-use borrow.Author.Needs.{needs}
 use mathlib.Core.Path.{sym, ap}
+use borrow.Author.Needs.{needs}
 use Rattle.receiving.proofs.judge.is_match.Statement.{statement}
 use Rattle.receiving.proofs.judge.is_match.Tie as tie
 
@@ -15,6 +15,12 @@ enum-told-2 c = search needs
 enum-told-3 : tie.Need-enum-told-3
 enum-told-3 c = search needs
 
+enum-told-4 : tie.Need-enum-told-4
+enum-told-4 c = search needs
+
+enum-told-5 : tie.Need-enum-told-5
+enum-told-5 c = search needs
+
 returns : tie.Need-returns
 returns c = λ g. sym (ap (λ (m : Request). isMatch (requestOf m g)) (c .enum-told .given .1))
 
@@ -24,5 +30,23 @@ returns-2 c = λ g. sym (ap (λ (m : Request). isMatch (requestOf m g)) (c .enum
 returns-3 : tie.Need-returns-3
 returns-3 c = λ g. sym (ap (λ (m : Request). isMatch (requestOf m g)) (c .enum-told3 .given .1))
 
+returns-4 : tie.Need-returns-4
+returns-4 c = λ g. sym (ap (λ (m : Request). isMatch (requestOf m g)) (c .enum-told4 .given .1))
+
+returns-5 : tie.Need-returns-5
+returns-5 c = λ g. sym (ap (λ (m : Request). isMatch (requestOf m g)) (c .enum-told5 .given .1))
+
 pub is-match-spec : {M : Type 1} → statement M
-is-match-spec = tie.close (tie.spec enum-told enum-told-2 enum-told-3 returns returns-2 returns-3)
+is-match-spec =
+    tie.close
+    (tie.spec
+    enum-told
+    enum-told-2
+    enum-told-3
+    enum-told-4
+    enum-told-5
+    returns
+    returns-2
+    returns-3
+    returns-4
+    returns-5)

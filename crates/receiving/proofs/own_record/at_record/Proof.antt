@@ -1,10 +1,10 @@
 -- `receiving::own_record::at_record` meets its contract, by the message.
 use Rattle.messages.specs.Reading.{groupsOf, readRules}
 use Rattle.records.proofs.RequestLaws.{as-rule}
-use Rattle.receiving.specs.AtRecord.{ownRule}
+use Rattle.receiving.specs.AtRecord.{ownRule, TimerFits}
 use Rattle.receiving.specs.declared.judge.OwnMessage.{OwnMessage}
+use mathlib.Core.Path.{sym, ap, subst}
 use borrow.Author.Needs.{needs}
-use mathlib.Core.Path.{sym, ap}
 use Rattle.receiving.proofs.own_record.at_record.Statement.{statement}
 use Rattle.receiving.proofs.own_record.at_record.Tie as tie
 
@@ -20,13 +20,31 @@ enum-told c = search needs
 profile-requires : tie.Need-profile-requires
 profile-requires c κs = search needs
 
+enum-known-message-2 : tie.Need-enum-known-message-2
+enum-known-message-2 c = search needs
+
+validate-second-requires : tie.Need-validate-second-requires
+validate-second-requires c κs = search needs
+
 returns : tie.Need-returns
-returns c = let a = c .before .before .before .before .before .args in as-rule (a .r) _ _ _ (sym (ap (λ (m : OwnMessage). ownRule m (groupsOf (readRules (a .octets .now))) (a .r)) (c .before .before .message .given .1))) (c .at-run .ensures)
+returns c = let a = c .before .before .before .before .before .args in (as-rule (a .r) _ _ _ (sym (ap (λ (m : OwnMessage). ownRule m (groupsOf (readRules (a .octets .now))) (a .r)) (c .before .before .message .given .1))) (c .at-run .ensures), subst TimerFits (sym (c .before .before .message .given .1)) tt)
 
 returns-2 : tie.Need-returns-2
-returns-2 c = let a = c .before .before .before .before .args in as-rule (a .r) _ _ _ (sym (ap (λ (m : OwnMessage). ownRule m (groupsOf (readRules (a .octets .now))) (a .r)) (c .before .enum-told .given .1))) (c .profile .ensures)
+returns-2 c = let a = c .before .before .before .before .args in (as-rule (a .r) _ _ _ (sym (ap (λ (m : OwnMessage). ownRule m (groupsOf (readRules (a .octets .now))) (a .r)) (c .before .enum-told .given .1))) (c .profile .ensures), subst TimerFits (sym (c .before .enum-told .given .1)) tt)
+
+returns-3 : tie.Need-returns-3
+returns-3 c = let a = c .before .before .before .before .before .args in (as-rule (a .r) _ _ _ (sym (ap (λ (m : OwnMessage). ownRule m (groupsOf (readRules (a .octets .now))) (a .r)) (c .before .before .message2 .given .1))) (c .validate-second .ensures), subst TimerFits (sym (c .before .before .message2 .given .1)) (search needs))
 
 pub at-record-spec : {M : Type 1} → statement M
 at-record-spec =
     tie.close
-    (tie.spec enum-known-message at-run-requires enum-told profile-requires returns returns-2)
+    (tie.spec
+    enum-known-message
+    at-run-requires
+    enum-told
+    profile-requires
+    enum-known-message-2
+    validate-second-requires
+    returns
+    returns-2
+    returns-3)

@@ -1,6 +1,8 @@
 -- The record and whether it reports, side by side.
 use borrow.Author.Needs.{needs}
 use Rattle.rules.specs.Ticks.{recordOf, repliesOf}
+use Rattle.ends.specs.Lists.{only}
+use Rattle.rules.specs.Replies.{reportOf, isReport}
 use Rattle.records.specs.Timers.{afterHeld}
 use Rattle.records.proofs.timers.report.Statement.{statement}
 use Rattle.records.proofs.timers.report.Tie as tie
@@ -9,7 +11,7 @@ held-in-requires : tie.Need-held-in-requires
 held-in-requires c κs = search needs
 
 returns : tie.Need-returns
-unfolding afterHeld recordOf repliesOf
+unfolding afterHeld recordOf repliesOf only reportOf isReport
 returns c = rw (c .held-in .ensures)
 
 pub report-spec : {M : Type 1} → statement M

@@ -27,12 +27,12 @@ wait-requires c κs = search needs
 returns : tie.Need-returns
 returns c =
     let s = c .before .before .before .before in
-    time-fires (s .args .elapsed) (s .args .r) _ (c .before .before .left-after .ensures ∙ ap (λ (t : ℕ). t - s .args .elapsed) (c .before .before .before .time-of .ensures)) _ (c .before .if1 .taken) (c .fired .ensures)
+    time-fires (s .args .back) (s .args .elapsed) (s .args .r) _ (c .before .before .left-after .ensures ∙ ap (λ (t : ℕ). t - s .args .elapsed) (c .before .before .before .time-of .ensures)) _ (c .before .if1 .taken) (c .fired .ensures)
 
 returns-2 : tie.Need-returns-2
 returns-2 c =
     let s = c .before .before .before .before .before in
-    time-runs (s .args .elapsed) (s .args .r) _ (c .before .before .before .left-after .ensures ∙ ap (λ (t : ℕ). t - s .args .elapsed) (c .before .before .before .before .time-of .ensures)) _ (c .before .before .if1 .left) (c .wait .ensures ∙ ap (λ (p : Phase). afterHeld (s .args .r) (waits p (s .args .r))) (c .before .with-left .ensures))
+    time-runs (s .args .back) (s .args .elapsed) (s .args .r) _ (c .before .before .before .left-after .ensures ∙ ap (λ (t : ℕ). t - s .args .elapsed) (c .before .before .before .before .time-of .ensures)) _ (c .before .before .if1 .left) (c .wait .ensures ∙ ap (λ (p : Phase). afterHeld (s .args .r) (waits p (s .args .r))) (c .before .with-left .ensures))
 
 pub tick-held-spec : {M : Type 1} → statement M
 tick-held-spec =

@@ -8,10 +8,10 @@ tick-held-requires : tie.Need-tick-held-requires
 tick-held-requires c κs = search needs
 
 returns : tie.Need-returns
-returns c = tick-held _ _ _ (c .before .if1 .taken) (c .tick-held .ensures)
+returns c = tick-held _ _ _ _ (c .before .if1 .taken) (c .tick-held .ensures)
 
 returns-2 : tie.Need-returns-2
-returns-2 c = tick-free _ _ (c .if1 .left)
+returns-2 c = tick-free _ _ _ (c .if1 .left)
 
 pub tick-record-spec : {M : Type 1} → statement M
 tick-record-spec = tie.close (tie.spec tick-held-requires returns returns-2)

@@ -4,13 +4,15 @@ use mathlib.Core.Path.{sym}
 use native.Mathlib.Omega.{arith}
 use borrow.Author.Needs.{needs}
 use lib.ListN.{length}
+use mathlib.Core.Bool.{true, false}
+use Rattle.rules.specs.Records.{isHeld, noneHeld}
 use Rattle.rules.proofs.IndexLaws.{passed}
-use Rattle.station.proofs.HeldLaws.{Sought, held-here, held-next, held-none}
+use Rattle.station.proofs.HeldLaws.{Sought, seek-here, seek-next, seek-end, held-settles, held-field}
 use Rattle.station.proofs.all_records.none_held.Statement.{statement}
 use Rattle.station.proofs.all_records.none_held.Tie as tie
 
 abbrev Inv-loop : tie.InvT-loop
-Inv-loop records i₀ i = Sought records i
+Inv-loop records i₀ i = Sought isHeld noneHeld false true held-settles records i
 
 abbrev μ-loop : tie.MeasureT-loop
 μ-loop records i₀ i = length records - i
@@ -29,7 +31,7 @@ array-copy-out-r : tie.Need-array-copy-out-r Inv-loop μ-loop
 array-copy-out-r c = search needs
 
 returns : tie.Need-returns Inv-loop μ-loop
-returns c = sym (held-here (c .before .before .before .before .args .t1) _ _ (inside (c .before .before)) (c .before .before .before .loop .inv) (c .if1 .taken))
+returns c = sym (seek-here isHeld noneHeld false true held-settles (c .before .before .before .before .args .t1) _ _ (inside (c .before .before)) (c .before .before .before .loop .inv) (held-field _ true (c .if1 .taken)))
 
 add-i : tie.Need-add-i Inv-loop μ-loop
 add-i c = search needs
@@ -38,10 +40,10 @@ loop-less : tie.Need-loop-less Inv-loop μ-loop
 loop-less c = omega (arith, inside (c .before .before))
 
 loop-again : tie.Need-loop-again Inv-loop μ-loop
-loop-again c = held-next (c .before .before .before .before .args .t1) _ _ (inside (c .before .before)) (c .before .before .before .loop .inv) (c .if1 .left)
+loop-again c = seek-next isHeld noneHeld false true held-settles (c .before .before .before .before .args .t1) _ _ (inside (c .before .before)) (c .before .before .before .loop .inv) (held-field _ false (c .if1 .left))
 
 returns-2 : tie.Need-returns-2 Inv-loop μ-loop
-returns-2 c = sym (held-none (c .before .before .args .t1) _ (c .before .loop .inv) (search (needs, passed)))
+returns-2 c = sym (seek-end isHeld noneHeld false true held-settles (c .before .before .args .t1) _ (c .before .loop .inv) (search (needs, passed)))
 
 pub none-held-spec : {M : Type 1} → statement M
 none-held-spec =

@@ -1,31 +1,26 @@
 -- The records ticked so far, and their reports.
-use Prim.Native.Nat.{_+_, _*_, _-_, _≤_, _<_}
+use Prim.Native.Nat.{_-_, _<_}
 use mathlib.Core.Logic.{⊎-elim}
 use native.Mathlib.Omega.{arith}
 use borrow.Author.Needs.{needs}
 use lib.ListN.{length}
 use Rattle.rules.proofs.IndexLaws.{passed}
-use Rattle.station.specs.Reports.{reportSize}
-use Rattle.station.proofs.TickLoopLaws.{Ticking, tick-none, tick-all, tick-room, part-room, tick-reportable, tick-waits, tick-reports}
+use Rattle.station.proofs.TickLoopLaws.{Ticking, tick-none, tick-all, tick-room, tick-part, tick-sendable, tick-waits, tick-reports}
 use Rattle.station.proofs.all_records.tick_all.Statement.{statement}
 use Rattle.station.proofs.all_records.tick_all.Tie as tie
 
 abbrev Inv-loop : tie.InvT-loop
-Inv-loop elapsed config out₀ records after₀ sent₀ i₀ out after sent i = Ticking config elapsed records out₀ out after sent i
+Inv-loop elapsed back config out₀ records after₀ sent₀ i₀ out after sent i = Ticking config back elapsed records out₀ out after sent i
 
 abbrev μ-loop : tie.MeasureT-loop
-μ-loop elapsed config out₀ records after₀ sent₀ i₀ out after sent i = length records - i
+μ-loop elapsed back config out₀ records after₀ sent₀ i₀ out after sent i = length records - i
 
 loop-holds : tie.Need-loop-holds Inv-loop μ-loop
-loop-holds c = tick-none _ _ _ _
+loop-holds c = tick-none _ _ _ _ _
 
 -- the turn's place is in the list
 inside : (c : tie.In-loop Inv-loop μ-loop) → c .before .loop .i < length (c .before .before .before .args .t1)
 inside c = search needs
-
--- a report more has room
-room : (c : tie.In-loop Inv-loop μ-loop) → reportSize * c .before .loop .sent + reportSize ≤ length (c .before .loop .out)
-room c = tick-room _ _ _ _ _ _ _ _ (c .before .loop .inv) (inside c) (c .before .before .before .pre)
 
 mul-r : tie.Need-mul-r Inv-loop μ-loop
 mul-r c = search needs
@@ -43,13 +38,13 @@ array-set-from-after : tie.Need-array-set-from-after Inv-loop μ-loop
 array-set-from-after c = omega (arith, inside (c .before .before .before), c .before .before .before .before .loop .inv .records .long)
 
 mul-at : tie.Need-mul-at Inv-loop μ-loop
-mul-at c = omega (arith, room (c .before .before .before .before))
+mul-at c = omega (arith, tick-room _ _ _ _ _ _ _ _ _ (c .before .before .before .before .before .loop .inv) (inside (c .before .before .before .before)) (c .before .before .before .before .before .before .before .pre) _ _ (c .before .before .tick-record .ensures) (c .if1 .taken))
 
 sub-write-report : tie.Need-sub-write-report Inv-loop μ-loop
-sub-write-report c = omega (arith, room (c .before .before .before .before))
+sub-write-report c = omega (arith, tick-room _ _ _ _ _ _ _ _ _ (c .before .before .before .before .before .loop .inv) (inside (c .before .before .before .before)) (c .before .before .before .before .before .before .before .pre) _ _ (c .before .before .tick-record .ensures) (c .if1 .taken))
 
 part-write-report-start : tie.Need-part-write-report-start Inv-loop μ-loop
-part-write-report-start c = omega (arith, room (c .before .before .before .before))
+part-write-report-start c = omega (arith, tick-room _ _ _ _ _ _ _ _ _ (c .before .before .before .before .before .loop .inv) (inside (c .before .before .before .before)) (c .before .before .before .before .before .before .before .pre) _ _ (c .before .before .tick-record .ensures) (c .if1 .taken))
 
 part-write-report-end : tie.Need-part-write-report-end Inv-loop μ-loop
 part-write-report-end c = search needs
@@ -60,12 +55,12 @@ write-report-requires c κs =
     let w = c .before .before .before .before .before .before .loop .inv in
     let h = inside (c .before .before .before .before .before) in
     let t = c .before .before .before .tick-record in (
-      tick-reportable _ _ _ _ _ _ _ _ w h (s .pre) _ _ (t .ensures) (c .before .if1 .taken),
-      part-room _ _ _ _ _ _ _ _ w h (s .pre),
+      tick-sendable _ _ _ _ _ _ _ _ _ w h (s .pre) _ _ (t .ensures) (c .before .if1 .taken),
+      tick-part _ _ _ _ _ _ _ _ _ w h (s .pre) _ _ (t .ensures) (c .before .if1 .taken),
     )
 
 add-sent : tie.Need-add-sent Inv-loop μ-loop
-add-sent c = omega (arith, room (c .before .before .before .before .before .before .before .before))
+add-sent c = omega (arith, tick-room _ _ _ _ _ _ _ _ _ (c .before .before .before .before .before .before .before .before .before .loop .inv) (inside (c .before .before .before .before .before .before .before .before)) (c .before .before .before .before .before .before .before .before .before .before .before .pre) _ _ (c .before .before .before .before .before .before .tick-record .ensures) (c .before .before .before .before .if1 .taken))
 
 add-i : tie.Need-add-i Inv-loop μ-loop
 add-i c = search needs
@@ -80,15 +75,15 @@ loop-again c =
     let h = inside (c .before .before .before .before) in
     let t = c .before .before .tick-record in
     ⊎-elim
-    (λ b. rw (b .5, b .6) (tick-reports _ _ _ _ _ _ _ _ w h (s .pre) _ _ (t .ensures) (b .2 .last .1 .1 .0) (b .0 .taken) (b .2 .ensures) (b .2 .kept .1 .1 .0)))
-    (λ b. rw (b .1, b .2) (tick-waits _ _ _ _ _ _ _ _ w h (s .pre) _ _ (t .ensures) (b .0 .left)))
+    (λ b. rw (b .5, b .6) (tick-reports _ _ _ _ _ _ _ _ _ w h (s .pre) _ _ (t .ensures) (b .0 .taken) (b .2 .last .1 .1 .0) (b .2 .ensures) (b .2 .kept .1 .1 .0)))
+    (λ b. rw (b .1, b .2) (tick-waits _ _ _ _ _ _ _ _ _ w h (s .pre) _ _ (t .ensures) (b .0 .left)))
     (c .if1 .came)
 
 same-length : tie.Need-same-length Inv-loop μ-loop
-same-length c = c .before .loop .inv .long
+same-length c = c .before .loop .inv .reports .long
 
 returns : tie.Need-returns Inv-loop μ-loop
-returns c = tick-all _ _ _ _ _ _ _ _ (c .before .loop .inv) (search (needs, passed))
+returns c = tick-all _ _ _ _ _ _ _ _ _ (c .before .loop .inv) (search (needs, passed))
 
 pub tick-all-spec : {M : Type 1} → statement M
 tick-all-spec =

@@ -1,7 +1,12 @@
 -- By where the pilot was and is.
-use mathlib.Core.Path.{refl, sym, _∙_}
+use mathlib.Core.Path.{refl, sym, ap, _∙_}
 use Rattle.station.proofs.StepLaws.{no-frames}
 use Rattle.station.proofs.EventLaws.{all-freed, stays, plugs, unplugs}
+use mathlib.Core.List.{List, map}
+use Rattle.rules.specs.declared.Record.{Record}
+use Rattle.rules.specs.declared.Turn.{Turn}
+use Rattle.rules.specs.Validation.{toggledRecord}
+use Rattle.station.specs.Steps.{anew}
 use borrow.Author.Needs.{needs}
 use Rattle.station.proofs.events.change.Statement.{statement}
 use Rattle.station.proofs.events.change.Tie as tie
@@ -11,6 +16,12 @@ plugged-requires c κs = search needs
 
 plugged-requires-2 : tie.Need-plugged-requires-2
 plugged-requires-2 c κs = search needs
+
+turn-of-requires : tie.Need-turn-of-requires
+turn-of-requires c κs = search needs
+
+toggle-all-requires : tie.Need-toggle-all-requires
+toggle-all-requires c κs = search needs
 
 anew-requires : tie.Need-anew-requires
 anew-requires c κs = search needs
@@ -32,10 +43,11 @@ end-requires c κs = search needs
 
 returns : tie.Need-returns
 returns c =
+    let a = c .before .before .before .before .before .before .before .before .before .args in
     stays _ _ _ _
-    (sym (c .before .before .before .plugged2 .ensures) ∙ c .before .before .if2 .taken)
-    (sym (c .before .before .before .before .before .plugged .ensures) ∙ c .before .before .before .before .if1 .taken)
-    (no-frames (c .before .before .before .before .before .before .before .args .station) _ _ _ _ _ (c .before .anew .result) _ _ (c .before .anew .ensures) (c .without-frames .ensures))
+    (sym (c .before .before .before .before .before .plugged2 .ensures) ∙ c .before .before .before .before .if2 .taken)
+    (sym (c .before .before .before .before .before .before .before .plugged .ensures) ∙ c .before .before .before .before .before .before .if1 .taken)
+    (no-frames (a .station) _ _ _ _ _ (c .before .anew .result) _ _ (c .before .anew .ensures ∙ ap (anew (a .station) (a .pilot) (a .station .clock) (a .station .state)) (c .before .before .toggle-all .ensures ∙ ap (λ (w : Turn). map (toggledRecord w) (a .station .records)) (c .before .before .before .turn-of .ensures))) (c .without-frames .ensures))
 
 returns-2 : tie.Need-returns-2
 returns-2 c =
@@ -54,6 +66,8 @@ change-spec =
     (tie.spec
     plugged-requires
     plugged-requires-2
+    turn-of-requires
+    toggle-all-requires
     anew-requires
     without-frames-requires
     free-all-requires

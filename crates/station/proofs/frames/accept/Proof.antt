@@ -4,8 +4,8 @@ use Rattle.rules.specs.Frames.{stateRule}
 use Rattle.station.proofs.ComesLaws.{comes-as}
 use Rattle.receiving.specs.Judge.{requestOf}
 use Rattle.receiving.specs.declared.judge.Request.{Request}
-use borrow.Author.Needs.{needs}
 use mathlib.Core.Path.{sym, ap}
+use borrow.Author.Needs.{needs}
 use Rattle.station.proofs.frames.accept.Statement.{statement}
 use Rattle.station.proofs.frames.accept.Tie as tie
 
@@ -21,8 +21,20 @@ enum-known-request-2 c = search needs
 at-own-requires : tie.Need-at-own-requires
 at-own-requires c κs = search needs
 
+enum-told : tie.Need-enum-told
+enum-told c = search needs
+
+validate-first-requires : tie.Need-validate-first-requires
+validate-first-requires c κs = search needs
+
 enum-known-request-3 : tie.Need-enum-known-request-3
 enum-known-request-3 c = search needs
+
+at-own-requires-2 : tie.Need-at-own-requires-2
+at-own-requires-2 c κs = search needs
+
+enum-known-request-4 : tie.Need-enum-known-request-4
+enum-known-request-4 c = search needs
 
 match-req-requires : tie.Need-match-req-requires
 match-req-requires c κs = search needs
@@ -43,7 +55,19 @@ same-length-3 : tie.Need-same-length-3
 same-length-3 c = search needs
 
 returns-3 : tie.Need-returns-3
-returns-3 c = let a = c .before .before .before .before .before .before .before .before .before .args in comes-as (a .station) _ _ (a .out .now) _ (c .before .before .match-req .result) (sym (ap (λ (q : Request). stateRule (a .station .config) (a .station .state) (a .station .records) (a .car) (requestOf q (groupsOf (readRules (a .octets .now))))) (c .before .before .before .before .before .request3 .given .1))) (c .before .before .match-req .ensures)
+returns-3 c = let a = c .before .before .before .before .before .before .before .before .args in comes-as (a .station) _ _ (a .out .now) _ (c .before .before .validate-first .result) (sym (ap (λ (q : Request). stateRule (a .station .config) (a .station .state) (a .station .records) (a .car) (requestOf q (groupsOf (readRules (a .octets .now))))) (c .before .before .before .before .enum-told .given .1))) (c .before .before .validate-first .ensures)
+
+same-length-4 : tie.Need-same-length-4
+same-length-4 c = search needs
+
+returns-4 : tie.Need-returns-4
+returns-4 c = let a = c .before .before .before .before .before .before .before .before .before .args in comes-as (a .station) _ _ (a .out .now) _ (c .before .before .at-own2 .result) (sym (ap (λ (q : Request). stateRule (a .station .config) (a .station .state) (a .station .records) (a .car) (requestOf q (groupsOf (readRules (a .octets .now))))) (c .before .before .before .before .before .request3 .given .1))) (c .before .before .at-own2 .ensures)
+
+same-length-5 : tie.Need-same-length-5
+same-length-5 c = search needs
+
+returns-5 : tie.Need-returns-5
+returns-5 c = let a = c .before .before .before .before .before .before .before .before .before .args in comes-as (a .station) _ _ (a .out .now) _ (c .before .before .match-req .result) (sym (ap (λ (q : Request). stateRule (a .station .config) (a .station .state) (a .station .records) (a .car) (requestOf q (groupsOf (readRules (a .octets .now))))) (c .before .before .before .before .before .request4 .given .1))) (c .before .before .match-req .ensures)
 
 pub accept-spec : {M : Type 1} → statement M
 accept-spec =
@@ -53,11 +77,19 @@ accept-spec =
     parm-req-requires
     enum-known-request-2
     at-own-requires
+    enum-told
+    validate-first-requires
     enum-known-request-3
+    at-own-requires-2
+    enum-known-request-4
     match-req-requires
     same-length
     returns
     same-length-2
     returns-2
     same-length-3
-    returns-3)
+    returns-3
+    same-length-4
+    returns-4
+    same-length-5
+    returns-5)
