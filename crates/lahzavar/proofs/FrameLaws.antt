@@ -48,7 +48,7 @@ use Rattle.receiving.specs.AtRecord.{admissionRule, admissionOf, ownRule}
 use Rattle.station.specs.Frames.{Ready, settled}
 use Rattle.receiving.specs.Judge.{Asking, ownMessageOf, judgedOf, judgeRule}
 use Rattle.station.proofs.ComesLaws.{state-other}
-use Rattle.station.proofs.OwnLaws.{own-none, own-settled}
+use Rattle.station.proofs.OwnLaws.{change-own, own-none, own-settled}
 use Rattle.station.proofs.ParmLaws.{parm-answered}
 use Rattle.receiving.proofs.JudgeLaws.{taken, frame-judged, judges}
 use Rattle.words.specs.Words.{configOf, stateOf, recordsOf, stationOf, withRecords}
@@ -122,12 +122,12 @@ module _ (w s : List ℕ) (c : CarAddress) where
         -- 11 where the car holds no record
         pub takes-missing : OneOf (1 ∷ 2 ∷ []) (tagOf places.the-type p) → ruleOf (forRecord (ownMessageOf m g)) ≡ no 11
         unfolding stationOf
-        takes-missing o = own-none (stationOf w s) c m g a (sym es ∙ t) (not-own c (recordsOf w s) p (ep s) o)
+        takes-missing o = own-none (stationOf w s) c (ownMessageOf m g) (ownRule m g) (change-own c m g _) a (sym es ∙ t) (not-own c (recordsOf w s) p (ep s) o)
 
         -- a message at the car's own record
         pub takes-own : (i : ℕ) (d r : Record) (x : Checked Kept) → p ≡ Own i → r ≡ getD (recordsOf w s) i d → x ≡ ownRule m g r → settled (stationOf w s) i c x ≡ ruleOf (forRecord (ownMessageOf m g))
         unfolding stationOf
-        takes-own i d r x e er ex = own-settled (stationOf w s) c m g a (sym es ∙ t) i d x (found c (recordsOf w s) p (Own i) (ep s) e) (ex ∙ ap (ownRule m g) er)
+        takes-own i d r x e er ex = own-settled (stationOf w s) c (ownMessageOf m g) (ownRule m g) (change-own c m g _) i d x (a, sym es ∙ t) (found c (recordsOf w s) p (Own i) (ep s) e) (ex ∙ ap (ownRule m g) er)
 
 -- ---- the call
 

@@ -88,6 +88,6 @@ module _ (n reading : ℕ) (w s : List ℕ) (r : Answered) where
 
 -- ---- configuring
 
-pub configured-lent : (a : StationAddress) (m : ModemAddress) (nid : Nid) (nmk : Nmk) (k : Configured) (v t : List ℕ) (r : Answered)
-    → rules.Configures a m nid nmk k → stationOf v t ≡ k .station → r ≡ saidOf (answerOf (k .answer)) → Configures a m nid nmk v t r
-configured-lent a m nid nmk k v t r c e q = record { station = e ∙ c .station; answer = q ∙ ap saidOf (c .answer) }
+pub configured-lent : (a : StationAddress) (m : ModemAddress) (nid : Nid) (nmk : Nmk) (exempt : Bool) (k : Configured) (v t : List ℕ) (r : Answered)
+    → rules.Configures a m nid nmk exempt k → stationOf v t ≡ k .station → r ≡ saidOf (answerOf (k .answer)) → Configures a m nid nmk exempt v t r
+configured-lent a m nid nmk exempt k v t r c e q = record { station = e ∙ c .station; answer = q ∙ ap saidOf (c .answer) }

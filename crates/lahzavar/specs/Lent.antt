@@ -1,6 +1,7 @@
 -- What the calls on a lent station promise.
 use Prim.Native.Nat.{ℕ}
 use mathlib.Core.Path.{_≡_}
+use mathlib.Core.Bool.{Bool}
 use mathlib.Core.List.{List}
 use lib.Dec.{leb}
 use Rattle.messages.specs.declared.ModemAddress.{ModemAddress}
@@ -57,6 +58,6 @@ PilotLent k reading w s = Leaves (pilotStep (stationOf w s) reading (pilotBy k))
 -- ---- configuring
 
 -- the words and sums afterwards mean the station that configuring gives, a refused one too
-pub record Configures (address : StationAddress) (modem : ModemAddress) (nid : Nid) (nmk : Nmk) (v t : List ℕ) (r : Answered) : Type 0 where
-  pub station : stationOf v t ≡ configured address modem nid nmk
+pub record Configures (address : StationAddress) (modem : ModemAddress) (nid : Nid) (nmk : Nmk) (exempt : Bool) (v t : List ℕ) (r : Answered) : Type 0 where
+  pub station : stationOf v t ≡ configured address modem nid nmk exempt
   pub answer : r ≡ answered (configuring address modem nid)

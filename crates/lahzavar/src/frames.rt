@@ -150,7 +150,7 @@ fn settle(
     }
 }
 
-// START, SOUND, RSP or PROFILE at the car's own record: 11 where it has none.
+// A message at the car's own record: 11 where it has none.
 fn at_own(
     words: &mut StationWords,
     sums: &mut StationSums,
@@ -189,7 +189,7 @@ fn by_value(
     storing::settle(words, sums, stepped)
 }
 
-// A frame was received: MATCH.REQ concerns the whole station, any other one record.
+// A frame was received: PARM.REQ and what concerns the car's own run touch one record; MATCH.REQ and both VALIDATE.REQ, which are rare, go through the whole station.
 pub(crate) fn receive(
     words: &mut StationWords,
     sums: &mut StationSums,
@@ -206,7 +206,7 @@ pub(crate) fn receive(
         Judged::Taken { car, request } => match request {
             Request::Parm(run) => parm_req(words, sums, car, run, out),
             Request::Own(message) => at_own(words, sums, car, message, octets, out),
-            Request::Match(_) => by_value(words, sums, octets, out),
+            _ => by_value(words, sums, octets, out),
         },
     }
 }

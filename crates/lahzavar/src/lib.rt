@@ -14,7 +14,9 @@ use words::StationSums;
 use words::StationWords;
 use words::WORDS;
 ghost use mathlib.Core.Path.{_≡_};
+ghost use mathlib.Core.Bool.{not};
 ghost use mathlib.Core.List.{List, []};
+ghost use lib.Dec.{eqb};
 ghost use Prim.Native.Nat.{ℕ};
 ghost use lib.ListN.{length};
 ghost use Rattle.rules.specs.Calls as calls;
@@ -26,8 +28,8 @@ ghost use Rattle.words.specs.Wiped.{Wiped};
 ghost use Rattle.lahzavar.specs.Answers.{version, heardAs};
 ghost use Rattle.lahzavar.specs.Lent.{Lent, PilotLent, Configures};
 
-// The version 0.3.1: 65536 times the major number, 256 times the minor, and the patch.
-const VERSION: u32 = 65536 * 0 + 256 * 3 + 1;
+// The version 0.4.0: 65536 times the major number, 256 times the minor, and the patch.
+const VERSION: u32 = 65536 * 0 + 256 * 4 + 0;
 
 // A call's answer: the refusal's number or 0; an indication (0 none, 1 no link, 2 link established); how many frames of how many octets in all.
 #[repr(C)]
@@ -45,7 +47,7 @@ pub struct Heard {
     pub sounds: u32,
 }
 
-// Configures a station; a bad configuration is refused, and its station answers 16 to everything.
+// Configures a station; validation is required where the last number is 0. A bad configuration is refused, and its station answers 16 to everything.
 #[no_mangle]
 pub extern "C" fn lahzavar_configure(
     words: &mut StationWords,
@@ -55,8 +57,9 @@ pub extern "C" fn lahzavar_configure(
     nid: u64,
     first: u64,
     last: u64,
+    exempt: u32,
 ) -> Answered
-    ensures { λ r. ⌜ Configures (record { 0 = address }) (record { 0 = modem }) (record { 0 = nid }) (record { 0 = first; 1 = last }) (now (words .exit)) (now (sums .exit)) r ⌝ }
+    ensures { λ r. ⌜ Configures (record { 0 = address }) (record { 0 = modem }) (record { 0 = nid }) (record { 0 = first; 1 = last }) (not (eqb exempt 0)) (now (words .exit)) (now (sums .exit)) r ⌝ }
 {
     storing::configure(
         words,
@@ -65,6 +68,7 @@ pub extern "C" fn lahzavar_configure(
         ModemAddress(modem),
         Nid(nid),
         Nmk(first, last),
+        exempt != 0,
     )
 }
 

@@ -35,10 +35,11 @@ pub(crate) fn configure(
     modem: ModemAddress,
     nid: Nid,
     nmk: Nmk,
+    exempt: bool,
 ) -> Answered
-    ensures { λ r. ⌜ Configures address modem nid nmk (now (words .exit)) (now (sums .exit)) r ⌝ }
+    ensures { λ r. ⌜ Configures address modem nid nmk exempt (now (words .exit)) (now (sums .exit)) r ⌝ }
 {
-    let made = rules::configure(address, modem, nid, nmk);
+    let made = rules::configure(address, modem, nid, nmk, exempt);
     let station = made.station;
     let answer = made.answer;
     words::pack(station, words, sums);

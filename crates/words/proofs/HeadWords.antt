@@ -24,7 +24,7 @@ use Rattle.rules.specs.Numbers.{pilotOf}
 use Rattle.ends.specs.Words.{flagOf}
 use Rattle.words.specs.Written.{stateNumber, stateTime, stateCar, stateRun, pilotNumber, wordsOf, headOf}
 use Rattle.ends.proofs.RunLaws.{getD-before, getD-front}
-use Rattle.words.proofs.RecordWords.{place, length-records, record-put, record-back}
+use Rattle.words.proofs.RecordWords.{place, length-records, record-put, flag-back, record-back}
 use Rattle.ends.proofs.WordLaws.{flag-and}
 
 -- ---- what the head says
@@ -36,7 +36,7 @@ SameHead v w = (j : ℕ) → j < headCount → getD v j 0 ≡ getD w j 0
 module _ (v w : List ℕ) (e : SameHead v w) where
   config-same : configOf v ≡ configOf w
   unfolding configOf
-  config-same = rw (e 0 (omega arith), e 1 (omega arith), e 2 (omega arith), e 3 (omega arith), e 4 (omega arith), e 5 (omega arith))
+  config-same = rw (e 0 (omega arith), e 1 (omega arith), e 2 (omega arith), e 3 (omega arith), e 4 (omega arith), e 5 (omega arith), e 12 (omega arith))
 
   state-same : stateOf v ≡ stateOf w
   state-same = rw (e 6 (omega arith), e 7 (omega arith), e 8 (omega arith), e 9 (omega arith))
@@ -94,9 +94,10 @@ unfolding stationOf configOf headOf
 station-back x s g h k =
     let o = x .config in
     let b : eqb (flagOf (o .good)) 1 && isGood (o .address) (o .modem) (o .nid) ≡ o .good = flag-and (o .good) (isGood (o .address) (o .modem) (o .nid)) (good-back o g) in
+    let f : eqb (flagOf (o .exempt)) 1 ≡ o .exempt = flag-back (o .exempt) in
     let e : x .clock % 2 ^ 32 ≡ x .clock = omega arith in
     λ i. record {
-      config = record { good = b i; address = o .address; modem = o .modem; nid = o .nid; nmk = o .nmk };
+      config = record { good = b i; address = o .address; modem = o .modem; nid = o .nid; nmk = o .nmk; exempt = f i };
       state = state-back (x .state) h i;
       pilot = pilot-back (x .pilot) i;
       clock = e i;

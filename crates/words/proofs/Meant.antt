@@ -1,24 +1,32 @@
 -- Any words and sums mean a station that every call can take.
 use Prim.Native.Nat.{ℕ, zero, suc, _*_, _^_, _≤_, _%_}
 use mathlib.Core.Path.{_≡_, refl, sym, subst}
+use mathlib.Core.Bool.{Bool, true, false}
 use mathlib.Core.List.{List, [], _∷_, zipWith}
 use native.Mathlib.Omega.{arith}
 use lib.Dec.{eqb}
 use lib.ListN.{length, getD, drop, length-take, length-map}
 use Rattle.messages.specs.Table.{groupCount, isUnicast}
 use Rattle.messages.proofs.LayoutLaws.{and-right}
+use Rattle.rules.specs.declared.Phase.{Phase}
+use Rattle.rules.specs.declared.Phase.the-variants.{Asked}
 use Rattle.rules.specs.declared.Record.{Record}
 use Rattle.rules.specs.declared.Station.{Station}
-use Rattle.rules.specs.Constants.{recordCount}
-use Rattle.rules.specs.Invariant.{InPhase, GoodRecord, GoodConfiguration, Invariant}
+use Rattle.rules.specs.Constants.{askedTime, recordCount}
+use Rattle.rules.specs.Invariant.{Reportable, InPhase, GoodRecord, GoodConfiguration, Invariant}
 use Rattle.ends.specs.Lists.{All}
 use Rattle.rules.specs.Records.{isHeld}
 use Rattle.rules.specs.Rules.{isGood, freeRecord, configured}
 use Rattle.rules.proofs.InvariantKept.{configured-keeps}
-use Rattle.ends.proofs.Logic.{split}
-use Rattle.ends.specs.Words.{runs}
-use Rattle.words.specs.Words.{headCount, width, phaseOf, profilesOf, sumsOf, recordOf, recordsOf, configOf, stateOf, stationOf}
+use Rattle.ends.specs.Words.{timeWithin, runs}
+use Rattle.words.specs.Words.{headCount, width, countingOf, phasesOf, phaseOf, reportedOf, profilesOf, sumsOf, recordOf, recordsOf, configOf, stateOf, stationOf}
 use Rattle.rules.specs.Numbers.{pilotOf}
+
+-- what holds of all of a list and of what stands past it
+all-getD : {A : Type 0} (P : A → Type 0) (xs : List A) (i : ℕ) (z : A) → All P xs → P z → P (getD xs i z)
+all-getD P [] i z h k = k
+all-getD P (x ∷ xs) zero z h k = h .0
+all-getD P (x ∷ xs) (suc i) z h k = all-getD P xs i z (h .1) k
 
 -- ---- a record
 
@@ -28,16 +36,25 @@ sums-limited n [] i = omega arith
 sums-limited n (x ∷ s) zero = omega arith
 sums-limited n (x ∷ s) (suc i) = sums-limited n s i
 
--- the profiles suit the phase where its time and retries do
-phase-limited : (k t n m : ℕ) → InPhase (phaseOf k t n) (profilesOf (phaseOf k t n) m)
-unfolding phaseOf profilesOf
-phase-limited k t n m = split (eqb k 1)
-    (λ a. rw a ((omega arith, omega arith), omega arith))
-    (λ a. rw a (split (eqb k 2)
-    (λ b. rw b ((omega arith, omega arith), (omega arith, (omega arith, omega arith))))
-    (λ b. rw b (split (eqb k 3)
-    (λ c. rw c ((omega arith, omega arith), (omega arith, omega arith)))
-    (λ c. rw c ((omega arith, omega arith), refl))))))
+-- the profiles suit a phase
+abbrev Suits : ℕ → Phase → Type 0
+Suits m p = InPhase p (profilesOf p m)
+
+asked-limited : (t m : ℕ) → Suits m (Asked (timeWithin askedTime t))
+unfolding profilesOf
+asked-limited t m = ((omega arith, omega arith), refl)
+
+-- they suit each where its time and its retries or toggles do
+phases-limited : (t n m : ℕ) → All (Suits m) (phasesOf t n)
+unfolding profilesOf
+phases-limited t n m =
+    let r : Reportable (reportedOf m) = (omega arith, omega arith) in
+    let counting : (b : Bool) → Suits m (countingOf t n b) = λ b. ((omega arith, omega arith), (omega arith, r)) in
+    (asked-limited t m, (((omega arith, omega arith), omega arith), (((omega arith, omega arith), (omega arith, r)), (((omega arith, omega arith), r), (((omega arith, omega arith), r), (counting false, (counting true, (((omega arith, omega arith), r), tt))))))))
+
+phase-limited : (k t n m : ℕ) → Suits m (phaseOf k t n)
+unfolding phaseOf
+phase-limited k t n m = all-getD (Suits m) (phasesOf t n) k (Asked (timeWithin askedTime t)) (phases-limited t n m) (asked-limited t m)
 
 pub record-meant : (w s : List ℕ) → GoodRecord (recordOf w s)
 unfolding recordOf isHeld
@@ -64,9 +81,10 @@ config-meant : (w : List ℕ) → GoodConfiguration (configOf w)
 unfolding configOf configured
 config-meant w =
     let t = eqb (getD w 0 0) 1 in
+    let x = eqb (getD w 12 0) 1 in
     let u = isGood (record { 0 = getD w 1 0 }) (record { 0 = getD w 2 0 }) (record { 0 = getD w 3 0 }) in
-    let k : GoodConfiguration (configured (record { 0 = getD w 1 0 }) (record { 0 = getD w 2 0 }) (record { 0 = getD w 3 0 }) (record { 0 = getD w 4 0; 1 = getD w 5 0 }) .config) =
-    configured-keeps (record { 0 = getD w 1 0 }) (record { 0 = getD w 2 0 }) (record { 0 = getD w 3 0 }) (record { 0 = getD w 4 0; 1 = getD w 5 0 }) .config in
+    let k : GoodConfiguration (configured (record { 0 = getD w 1 0 }) (record { 0 = getD w 2 0 }) (record { 0 = getD w 3 0 }) (record { 0 = getD w 4 0; 1 = getD w 5 0 }) x .config) =
+    configured-keeps (record { 0 = getD w 1 0 }) (record { 0 = getD w 2 0 }) (record { 0 = getD w 3 0 }) (record { 0 = getD w 4 0; 1 = getD w 5 0 }) x .config in
     record {
       address = λ g. k .address (and-right t u g);
       modem = λ g. k .modem (and-right t u g);
@@ -88,14 +106,9 @@ unpacked w s x a b c d e =
 
 -- ---- the record at a place
 
-all-getD : {A : Type 0} (P : A → Type 0) (xs : List A) (i : ℕ) (z : A) → All P xs → P z → P (getD xs i z)
-all-getD P [] i z h k = k
-all-getD P (x ∷ xs) zero z h k = h .0
-all-getD P (x ∷ xs) (suc i) z h k = all-getD P xs i z (h .1) k
-
 free-good : GoodRecord freeRecord
 unfolding configured
-free-good = configured-keeps (record { 0 = 0 }) (record { 0 = 0 }) (record { 0 = 0 }) (record { 0 = 0; 1 = 0 }) .records .0
+free-good = configured-keeps (record { 0 = 0 }) (record { 0 = 0 }) (record { 0 = 0 }) (record { 0 = 0; 1 = 0 }) false .records .0
 
 -- past the last a free one
 pub at-meant : (w s : List ℕ) (i : ℕ) → GoodRecord (getD (recordsOf w s) i freeRecord)

@@ -12,7 +12,7 @@ use Rattle.octets.specs.Octets.{part}
 use Rattle.messages.specs.Table.{groupCount, isUnicast}
 use Rattle.messages.specs.declared.CarAddress.{CarAddress}
 use Rattle.rules.specs.declared.Phase.{Phase}
-use Rattle.rules.specs.declared.Phase.the-variants.{Asked, Sounding, Reported, Awaiting}
+use Rattle.rules.specs.declared.Phase.the-variants.{Asked, Sounding, Reported, Awaiting, Ready, Counting, Success}
 use Rattle.rules.specs.declared.Record.{Record}
 use Rattle.ends.specs.Constants.{soundCount}
 use Rattle.rules.specs.Constants.{recordCount}
@@ -21,7 +21,7 @@ use Rattle.rules.specs.Records.{isHeld}
 use Rattle.ends.specs.Words.{runs}
 use Rattle.words.specs.Words.{headCount, width, wordCount, sumCount, phaseOf, profilesOf, mostSum, sumsOf, recordOf, recordsOf}
 use Rattle.ends.specs.Words.{flagOf}
-use Rattle.words.specs.Written.{phaseNumber, phaseRetries, wordsOf}
+use Rattle.words.specs.Written.{phaseNumber, phaseCount, wordsOf}
 use Rattle.records.specs.Timers.{timeOf}
 use Rattle.ends.proofs.WordLaws.{flag-and, word-at}
 use Rattle.ends.proofs.RunLaws.{drop-sets, length-runs, runs-at, runs-sets, length-zip, zip-set, zip-at}
@@ -67,16 +67,21 @@ module _ (w s : List ℕ) (i : ℕ) (d : Record) (h : i < recordCount) where
 
 -- ---- a record's own words, and back
 
-flag-back : (b : Bool) → eqb (flagOf b) 1 ≡ b
+-- a flag alone
+pub flag-back : (b : Bool) → eqb (flagOf b) 1 ≡ b
 flag-back true = refl
 flag-back false = refl
 
-phase-back : (p : Phase) (n : ℕ) → InPhase p n → phaseOf (phaseNumber p) (timeOf p) (phaseRetries p) ≡ p
+phase-back : (p : Phase) (n : ℕ) → InPhase p n → phaseOf (phaseNumber p) (timeOf p) (phaseCount p) ≡ p
 unfolding phaseOf
 phase-back (Asked t) n h = ap Asked (omega arith)
 phase-back (Sounding t) n h = ap Sounding (omega arith)
 phase-back (Reported t k) n h = ap₂ Reported (omega arith) (omega arith)
 phase-back (Awaiting t) n h = ap Awaiting (omega arith)
+phase-back (Ready t) n h = ap Ready (omega arith)
+phase-back (Counting t k false) n h = ap₂ (λ (x y : ℕ). Counting x y false) (omega arith) (omega arith)
+phase-back (Counting t k true) n h = ap₂ (λ (x y : ℕ). Counting x y true) (omega arith) (omega arith)
+phase-back (Success t) n h = ap Success (omega arith)
 
 profiles-back : (p : Phase) (n : ℕ) → InPhase p n → profilesOf p n ≡ n
 unfolding profilesOf
@@ -84,6 +89,9 @@ profiles-back (Asked t) n h = sym (h .1)
 profiles-back (Sounding t) n h = omega arith
 profiles-back (Reported t k) n h = omega arith
 profiles-back (Awaiting t) n h = omega arith
+profiles-back (Ready t) n h = omega arith
+profiles-back (Counting t k b) n h = omega arith
+profiles-back (Success t) n h = omega arith
 
 pub sums-back : (n : ℕ) (s : List ℕ) → ((i : ℕ) → getD s i 0 ≤ 255 * n) → sumsOf n s ≡ s
 unfolding sumsOf
@@ -96,10 +104,10 @@ sums-back n (x ∷ s) h =
 pub record-back : (r : Record) → GoodRecord r → recordOf (wordsOf r) (r .sums) ≡ r
 unfolding recordOf wordsOf isHeld
 record-back r g =
-    let p : phaseOf (phaseNumber (r .phase)) (timeOf (r .phase)) (phaseRetries (r .phase)) ≡ r .phase = phase-back (r .phase) (r .profiles) (g .phase) in
-    let n : profilesOf (phaseOf (phaseNumber (r .phase)) (timeOf (r .phase)) (phaseRetries (r .phase))) (r .profiles) ≡ r .profiles =
+    let p : phaseOf (phaseNumber (r .phase)) (timeOf (r .phase)) (phaseCount (r .phase)) ≡ r .phase = phase-back (r .phase) (r .profiles) (g .phase) in
+    let n : profilesOf (phaseOf (phaseNumber (r .phase)) (timeOf (r .phase)) (phaseCount (r .phase))) (r .profiles) ≡ r .profiles =
     ap (λ (q : Phase). profilesOf q (r .profiles)) p ∙ profiles-back (r .phase) (r .profiles) (g .phase) in
-    let m : sumsOf (profilesOf (phaseOf (phaseNumber (r .phase)) (timeOf (r .phase)) (phaseRetries (r .phase))) (r .profiles)) (r .sums) ≡ r .sums =
+    let m : sumsOf (profilesOf (phaseOf (phaseNumber (r .phase)) (timeOf (r .phase)) (phaseCount (r .phase))) (r .profiles)) (r .sums) ≡ r .sums =
     ap (λ (k : ℕ). sumsOf k (r .sums)) n ∙ sums-back (r .profiles) (r .sums) (g .sums) in
     let b : eqb (flagOf (r .held)) 1 && isUnicast (r .car .0) ≡ r .held = flag-and (r .held) (isUnicast (r .car .0)) (g .car) in
     let e : r .heard % 2 ^ soundCount ≡ r .heard = omega (arith, g .heard) in

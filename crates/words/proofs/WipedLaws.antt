@@ -10,7 +10,7 @@ use Rattle.rules.specs.declared.Station.{Station}
 use Rattle.rules.specs.Calls.{Call}
 use Rattle.rules.specs.Rules.{outcome, soundsHeard}
 use Rattle.rules.specs.Stations.{shared, inner}
-use Rattle.rules.proofs.ReachableHolds.{bad-refuses}
+use Rattle.rules.proofs.Refusals.{bad-refuses}
 use Rattle.ends.specs.Outcomes.{outcomeOf}
 use Rattle.words.specs.Words.{wordCount, sumCount, configOf, stationOf}
 use Rattle.words.specs.Wiped.{Wiped}

@@ -1,19 +1,19 @@
 -- A station as words and sums: what any two lists of numbers mean.
 use Prim.Native.Nat.{ℕ, _+_, _*_, _-_, _^_, _%_, min, max}
-use mathlib.Core.Bool.{cond, _&&_}
-use mathlib.Core.List.{List, map, zipWith}
+use mathlib.Core.Bool.{Bool, true, false, cond, _&&_}
+use mathlib.Core.List.{List, [], _∷_, map, zipWith}
 use lib.Dec.{eqb}
 use lib.ListN.{length, getD, drop}
 use Rattle.messages.specs.Table.{groupCount, isUnicast}
 use Rattle.rules.specs.declared.Configuration.{Configuration}
 use Rattle.rules.specs.declared.Phase.{Phase}
-use Rattle.rules.specs.declared.Phase.the-variants.{Asked, Sounding, Reported, Awaiting}
+use Rattle.rules.specs.declared.Phase.the-variants.{Asked, Sounding, Reported, Awaiting, Ready, Counting, Success}
 use Rattle.rules.specs.declared.Record.{Record}
 use Rattle.rules.specs.declared.State.{State}
 use Rattle.rules.specs.declared.State.the-variants.{Unmatched, Matching, Joining, Matched}
 use Rattle.rules.specs.declared.Station.{Station}
 use Rattle.ends.specs.Constants.{retryCount, soundCount}
-use Rattle.rules.specs.Constants.{askedTime, soundingTime, reportedTime, awaitingTime, recordCount}
+use Rattle.rules.specs.Constants.{askedTime, soundingTime, reportedTime, awaitingTime, readyTime, windowStep, windowCount, successTime, mostToggles, recordCount}
 use Rattle.ends.specs.Lists.{only}
 use Rattle.ends.specs.Words.{timeWithin, runs}
 use Rattle.rules.specs.Numbers.{pilotOf}
@@ -23,11 +23,11 @@ use Rattle.rules.specs.Stations.{shared, build}
 
 -- ---- the layout
 
--- how many words the head has: good, our address, the modem's, NID, NMK's two numbers, state, its time, its car, its run, pilot, clock
+-- how many words the head has: good, our address, the modem's, NID, NMK's two numbers, state, its time, its car, its run, pilot, clock, exempt
 abbrev pub headCount : ℕ
-headCount = 12
+headCount = 13
 
--- how many words a record has: held, car, run, phase, its time, its retries, heard, profiles
+-- how many words a record has: held, car, run, phase, its time, its retries or toggles, heard, profiles
 abbrev pub width : ℕ
 width = 8
 
@@ -41,20 +41,40 @@ sumCount = groupCount * recordCount
 
 -- ---- a record
 
--- a phase by its number, with its time and its retries: any other number is Asked, the first of them
+-- counting, with its time and its toggles, by whether a toggle has begun
+abbrev pub countingOf : ℕ → ℕ → Bool → Phase
+countingOf t n b = Counting (timeWithin (windowStep * windowCount) t) (min mostToggles n) b
+
+-- the phases by number, with their time and their retries or toggles
+abbrev pub phasesOf : ℕ → ℕ → List Phase
+phasesOf t n =
+    Asked (timeWithin askedTime t)
+    ∷ Sounding (timeWithin soundingTime t)
+    ∷ Reported (timeWithin reportedTime t) (min retryCount n)
+    ∷ Awaiting (timeWithin awaitingTime t)
+    ∷ Ready (timeWithin readyTime t)
+    ∷ countingOf t n false
+    ∷ countingOf t n true
+    ∷ Success (timeWithin successTime t)
+    ∷ []
+
+-- a phase by its number: any other number is Asked, the first of them
 unfoldable pub phaseOf : ℕ → ℕ → ℕ → Phase
-phaseOf k t n =
-    cond (eqb k 1) (Sounding (timeWithin soundingTime t))
-    (cond (eqb k 2) (Reported (timeWithin reportedTime t) (min retryCount n))
-    (cond (eqb k 3) (Awaiting (timeWithin awaitingTime t))
-    (Asked (timeWithin askedTime t))))
+phaseOf k t n = getD (phasesOf t n) k (Asked (timeWithin askedTime t))
+
+-- the profiles of which a report was made: one at least
+abbrev pub reportedOf : ℕ → ℕ
+reportedOf n = min soundCount (max 1 n)
 
 -- the profiles counted: as many as the phase allows
 unfoldable pub profilesOf : Phase → ℕ → ℕ
 profilesOf (Asked t) n = 0
 profilesOf (Sounding t) n = min (soundCount - 1) n
-profilesOf (Reported t k) n = min soundCount (max 1 n)
-profilesOf (Awaiting t) n = min soundCount (max 1 n)
+profilesOf (Reported t k) n = reportedOf n
+profilesOf (Awaiting t) n = reportedOf n
+profilesOf (Ready t) n = reportedOf n
+profilesOf (Counting t k b) n = reportedOf n
+profilesOf (Success t) n = reportedOf n
 
 -- the greatest sum of so many profiles
 abbrev pub mostSum : ℕ → ℕ
@@ -97,6 +117,7 @@ configOf w = record {
   modem = record { 0 = getD w 2 0 };
   nid = record { 0 = getD w 3 0 };
   nmk = record { 0 = getD w 4 0; 1 = getD w 5 0 };
+  exempt = eqb (getD w 12 0) 1;
 }
 
 -- a state by its number, with its time, its car and its run: any other number is Unmatched

@@ -1,9 +1,10 @@
 -- The words that are written for the parts of a station.
 use Prim.Native.Nat.{ℕ}
+use mathlib.Core.Bool.{Bool, true, false}
 use mathlib.Core.List.{List, [], _∷_}
 use Rattle.rules.specs.declared.Configuration.{Configuration}
 use Rattle.rules.specs.declared.Phase.{Phase}
-use Rattle.rules.specs.declared.Phase.the-variants.{Asked, Sounding, Reported, Awaiting}
+use Rattle.rules.specs.declared.Phase.the-variants.{Asked, Sounding, Reported, Awaiting, Ready, Counting, Success}
 use Rattle.rules.specs.declared.Pilot.{Pilot}
 use Rattle.rules.specs.declared.Pilot.the-variants.{A, B, C, D, E, F}
 use Rattle.rules.specs.declared.Record.{Record}
@@ -12,23 +13,34 @@ use Rattle.rules.specs.declared.State.the-variants.{Unmatched, Matching, Joinin
 use Rattle.ends.specs.Words.{flagOf}
 use Rattle.records.specs.Timers.{timeOf}
 
+-- the number of counting, by whether a toggle has begun
+abbrev pub countingNumber : Bool → ℕ
+countingNumber false = 5
+countingNumber true = 6
+
 -- the number of a phase
 abbrev pub phaseNumber : Phase → ℕ
 phaseNumber (Asked t) = 0
 phaseNumber (Sounding t) = 1
 phaseNumber (Reported t n) = 2
 phaseNumber (Awaiting t) = 3
+phaseNumber (Ready t) = 4
+phaseNumber (Counting t k b) = countingNumber b
+phaseNumber (Success t) = 7
 
--- a phase's retries left
-abbrev pub phaseRetries : Phase → ℕ
-phaseRetries (Asked t) = 0
-phaseRetries (Sounding t) = 0
-phaseRetries (Reported t n) = n
-phaseRetries (Awaiting t) = 0
+-- a phase's retries left, or its toggles
+abbrev pub phaseCount : Phase → ℕ
+phaseCount (Asked t) = 0
+phaseCount (Sounding t) = 0
+phaseCount (Reported t n) = n
+phaseCount (Awaiting t) = 0
+phaseCount (Ready t) = 0
+phaseCount (Counting t k b) = k
+phaseCount (Success t) = 0
 
 -- a record's words
 unfoldable pub wordsOf : Record → List ℕ
-wordsOf r = flagOf (r .held) ∷ r .car .0 ∷ r .run .0 ∷ phaseNumber (r .phase) ∷ timeOf (r .phase) ∷ phaseRetries (r .phase) ∷ r .heard ∷ r .profiles ∷ []
+wordsOf r = flagOf (r .held) ∷ r .car .0 ∷ r .run .0 ∷ phaseNumber (r .phase) ∷ timeOf (r .phase) ∷ phaseCount (r .phase) ∷ r .heard ∷ r .profiles ∷ []
 
 -- the number of a state
 abbrev pub stateNumber : State → ℕ
@@ -71,4 +83,4 @@ pilotNumber F = 5
 unfoldable pub headOf : Configuration → State → Pilot → ℕ → List ℕ
 headOf o st p t =
     flagOf (o .good) ∷ o .address .0 ∷ o .modem .0 ∷ o .nid .0 ∷ o .nmk .0 ∷ o .nmk .1
-    ∷ stateNumber st ∷ stateTime st ∷ stateCar st ∷ stateRun st ∷ pilotNumber p ∷ t ∷ []
+    ∷ stateNumber st ∷ stateTime st ∷ stateCar st ∷ stateRun st ∷ pilotNumber p ∷ t ∷ flagOf (o .exempt) ∷ []

@@ -5,16 +5,20 @@ use messages::CarAddress;
 use messages::RunId;
 use rules::ASKED_TIME;
 use rules::AWAITING_TIME;
+use rules::LONGEST_WINDOW;
+use rules::MOST_TOGGLES;
 use rules::Phase;
 use rules::Pilot;
+use rules::READY_TIME;
 use rules::REPORTED_TIME;
 use rules::SOUNDING_TIME;
+use rules::SUCCESS_TIME;
 use rules::State;
 ghost use mathlib.Core.Path.{_≡_};
 ghost use Prim.Native.Nat.{_*_, _^_, _%_, _<_, min};
 ghost use Rattle.ends.specs.Constants.{soundCount};
-ghost use Rattle.words.specs.Words.{phaseOf, profilesOf, mostSum, stateBy};
-ghost use Rattle.words.specs.Written.{phaseNumber, phaseRetries, stateTime, stateCar, stateRun, pilotNumber};
+ghost use Rattle.words.specs.Words.{countingOf, phaseOf, reportedOf, profilesOf, mostSum, stateBy};
+ghost use Rattle.words.specs.Written.{countingNumber, phaseNumber, phaseCount, stateTime, stateCar, stateRun, pilotNumber};
 
 // How many sets of sound counts there are: two to the number of sounds.
 const HEARD_SETS: u64 = 1024;
@@ -40,23 +44,41 @@ pub(crate) fn most_sum(profiles: u8) -> u16
     255 * (profiles as u16)
 }
 
-// A phase by its number; any other number is Asked.
-pub(crate) fn phase(number: u64, left: u64, retries: u64) -> Phase
-    ensures { λ r. ⌜ r ≡ phaseOf number left retries ⌝ }
+// Counting, by whether a toggle has begun.
+fn counting(left: u64, toggles: u64, begun: bool) -> Phase
+    ensures { λ r. ⌜ r ≡ countingOf left toggles begun ⌝ }
 {
-    if number == 1 {
-        return Phase::Sounding(ends::fields::time(SOUNDING_TIME, left));
+    Phase::Counting {
+        left: ends::fields::time(LONGEST_WINDOW, left),
+        toggles: ends::fields::at_most_count(MOST_TOGGLES, toggles),
+        begun: begun,
     }
-    if number == 2 {
-        return Phase::Reported {
+}
+
+// A phase by its number; any other number is Asked.
+pub(crate) fn phase(number: u64, left: u64, count: u64) -> Phase
+    ensures { λ r. ⌜ r ≡ phaseOf number left count ⌝ }
+{
+    match number {
+        1 => Phase::Sounding(ends::fields::time(SOUNDING_TIME, left)),
+        2 => Phase::Reported {
             left: ends::fields::time(REPORTED_TIME, left),
-            retries: ends::fields::at_most_count(RETRIES, retries),
-        };
+            retries: ends::fields::at_most_count(RETRIES, count),
+        },
+        3 => Phase::Awaiting(ends::fields::time(AWAITING_TIME, left)),
+        4 => Phase::Ready(ends::fields::time(READY_TIME, left)),
+        5 => counting(left, count, false),
+        6 => counting(left, count, true),
+        7 => Phase::Success(ends::fields::time(SUCCESS_TIME, left)),
+        _ => Phase::Asked(ends::fields::time(ASKED_TIME, left)),
     }
-    if number == 3 {
-        return Phase::Awaiting(ends::fields::time(AWAITING_TIME, left));
-    }
-    Phase::Asked(ends::fields::time(ASKED_TIME, left))
+}
+
+// The profiles of which a report was made.
+fn reported(word: u64) -> u8
+    ensures { λ r. ⌜ r ≡ reportedOf word ⌝ }
+{
+    ends::fields::at_most_count(SOUNDS, ends::fields::positive(word))
 }
 
 // The profiles counted.
@@ -66,11 +88,7 @@ pub(crate) fn profiles(phase: Phase, word: u64) -> u8
     match phase {
         Phase::Asked(_) => 0,
         Phase::Sounding(_) => ends::fields::at_most_count(SOUNDS - 1, word),
-        Phase::Reported {
-            left: _,
-            retries: _,
-        } => ends::fields::at_most_count(SOUNDS, ends::fields::positive(word)),
-        Phase::Awaiting(_) => ends::fields::at_most_count(SOUNDS, ends::fields::positive(word)),
+        _ => reported(word),
     }
 }
 
@@ -90,6 +108,13 @@ pub(crate) fn state(number: u64, left: u64, car: u64, run: u64) -> State
     }
 }
 
+// The number of counting, by whether a toggle has begun.
+fn counting_number(begun: bool) -> u64
+    ensures { λ r. ⌜ r ≡ countingNumber begun ⌝ }
+{
+    if begun { 6 } else { 5 }
+}
+
 // The number of a phase.
 pub(crate) fn phase_number(phase: Phase) -> u64
     ensures { λ r. ⌜ r ≡ phaseNumber phase ⌝ }
@@ -102,18 +127,32 @@ pub(crate) fn phase_number(phase: Phase) -> u64
             retries: _,
         } => 2,
         Phase::Awaiting(_) => 3,
+        Phase::Ready(_) => 4,
+        Phase::Counting {
+            left: _,
+            toggles: _,
+            begun,
+        } => counting_number(begun),
+        Phase::Success(_) => 7,
     }
 }
 
-// A phase's retries left.
-pub(crate) fn phase_retries(phase: Phase) -> u8
-    ensures { λ r. ⌜ r ≡ phaseRetries phase ⌝ }
+// A phase's retries left, or its toggles.
+pub(crate) fn phase_count(phase: Phase) -> u8
+    ensures { λ r. ⌜ r ≡ phaseCount phase ⌝ }
 {
     match phase {
         Phase::Asked(_) => 0,
         Phase::Sounding(_) => 0,
         Phase::Reported { left: _, retries } => retries,
         Phase::Awaiting(_) => 0,
+        Phase::Ready(_) => 0,
+        Phase::Counting {
+            left: _,
+            toggles,
+            begun: _,
+        } => toggles,
+        Phase::Success(_) => 0,
     }
 }
 

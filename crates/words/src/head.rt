@@ -1,4 +1,4 @@
-// The head: the configuration, the state, the pilot state and the clock.
+// The head: the configuration, the state, the pilot state and the clock; whether validation is not required stands last.
 use crate::HEAD;
 use crate::fields;
 use messages::ModemAddress;
@@ -31,6 +31,7 @@ pub(crate) fn config(words: &[u64]) -> Configuration
         modem: ModemAddress(modem),
         nid: Nid(nid),
         nmk: Nmk(words[4], words[5]),
+        exempt: words[12] == 1,
     }
 }
 
@@ -73,6 +74,7 @@ fn head_words(config: Configuration, state: State, pilot: Pilot, clock: u32) -> 
     let run = fields::state_run(state);
     let at = fields::pilot_number(pilot);
     let reading = ends::fields::from32(clock);
+    let exempt = ends::fields::flag(config.exempt);
     [
         good,
         address.0,
@@ -86,6 +88,7 @@ fn head_words(config: Configuration, state: State, pilot: Pilot, clock: u32) -> 
         run,
         at,
         reading,
+        exempt,
     ]
 }
 

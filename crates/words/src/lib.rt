@@ -28,7 +28,7 @@ ghost use Rattle.words.specs.Written.{stateNumber};
 ghost use Rattle.words.specs.Wiped.{Wiped};
 
 // How many words the head has.
-pub const HEAD: usize = 12;
+pub const HEAD: usize = 13;
 
 // How many words a record has.
 pub const WIDTH: usize = 8;

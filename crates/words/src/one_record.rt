@@ -70,10 +70,10 @@ fn record_words(r: Record) -> [u64; WIDTH]
     let held = ends::fields::flag(r.held);
     let number = fields::phase_number(phase);
     let left = ends::fields::from32(timers::time_of(phase));
-    let retries = ends::fields::from8(fields::phase_retries(phase));
+    let count = ends::fields::from8(fields::phase_count(phase));
     let heard = ends::fields::from16(r.heard);
     let profiles = ends::fields::from8(r.profiles);
-    [held, car.0, run.0, number, left, retries, heard, profiles]
+    [held, car.0, run.0, number, left, count, heard, profiles]
 }
 
 // Stores a record at its place; past the last place, nothing.

@@ -57,7 +57,7 @@ returns-3 c =
     let a = c .before .before .before .before .before .before .before .before .before .before .before .before .before .before .before .before .before .before .before .before .before .args in
     let p = c .before .before .before .before .before .before .before .before .before .before .before .before .before in
     comes-as _ _ (a .words .now) (a .sums .now) (a .out .now) _ _ _ (c .before .before .settle .result)
-    (takes-own (a .words .now) (a .sums .now) (a .car) _ (p .before .before .before .before .state-of .ensures) _ (p .before .before .enum-told .given .1) (p .find .result) (p .find .ensures) (a .message) (groupsOf (readRules (a .octets .now))) _ freeRecord _ _ (c .before .before .before .before .before .before .before .before .before .before .before .found .given .1) (c .before .before .before .before .before .before .before .record-at .ensures .0) (c .before .before .before .before .before .before .at-record .ensures .effect))
+    (takes-own (a .words .now) (a .sums .now) (a .car) _ (p .before .before .before .before .state-of .ensures) _ (p .before .before .enum-told .given .1) (p .find .result) (p .find .ensures) (a .message) (groupsOf (readRules (a .octets .now))) _ freeRecord _ _ (c .before .before .before .before .before .before .before .before .before .before .before .found .given .1) (c .before .before .before .before .before .before .before .record-at .ensures .0) (c .before .before .before .before .before .before .at-record .ensures .0 .effect))
     (c .before .before .settle .ensures)
 
 pub at-own-spec : {M : Type 1} → statement M

@@ -43,9 +43,6 @@ at-own-requires c κs =
     let j = c .before .before .before .before .before .before .before .before .before in
     frame-ready (a .words .now) (a .sums .now) (a .octets .now) (a .out .now) _ _ (j .judge .result) (j .before .before .before .config-of .ensures) (j .before .state-of .ensures) (j .judge .ensures) _ _ (c .before .before .before .before .before .before .before .judged2 .given .1)
 
-enum-told : tie.Need-enum-told
-enum-told c = search needs
-
 by-value-requires : tie.Need-by-value-requires
 by-value-requires c κs = search needs
 
@@ -80,7 +77,7 @@ same-length-3 : tie.Need-same-length-3
 same-length-3 c = search needs
 
 returns-4 : tie.Need-returns-4
-returns-4 c = c .before .before .by-value .ensures
+returns-4 c = search needs
 
 pub receive-spec : {M : Type 1} → statement M
 receive-spec =
@@ -96,7 +93,6 @@ receive-spec =
     parm-req-requires
     enum-known-request-2
     at-own-requires
-    enum-told
     by-value-requires
     returns
     same-length

@@ -25,9 +25,12 @@ shared-slice-read-t17 c = search needs
 shared-slice-read-t19 : tie.Need-shared-slice-read-t19
 shared-slice-read-t19 c = search needs
 
+shared-slice-read-t22 : tie.Need-shared-slice-read-t22
+shared-slice-read-t22 c = search needs
+
 returns : tie.Need-returns
 unfolding configOf
-returns c = simp (c .before .before .before .is-good .ensures)
+returns c = simp (c .before .before .before .before .is-good .ensures)
 
 pub config-spec : {M : Type 1} → statement M
 config-spec =
@@ -40,4 +43,5 @@ config-spec =
     shared-slice-read-t7
     shared-slice-read-t17
     shared-slice-read-t19
+    shared-slice-read-t22
     returns)

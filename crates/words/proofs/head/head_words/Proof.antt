@@ -1,7 +1,7 @@
 -- `words::head::head_words` meets its contract.
+use native.Mathlib.Omega.{arith}
 use Rattle.words.specs.Written.{headOf}
 use borrow.Author.Needs.{needs}
-use native.Mathlib.Omega.{arith}
 use Rattle.words.proofs.head.head_words.Statement.{statement}
 use Rattle.words.proofs.head.head_words.Tie as tie
 
@@ -32,11 +32,14 @@ pilot-number-requires c κs = search needs
 from32-requires-3 : tie.Need-from32-requires-3
 from32-requires-3 c κs = search needs
 
+flag-requires-2 : tie.Need-flag-requires-2
+flag-requires-2 c κs = search needs
+
 returns : tie.Need-returns
 unfolding headOf
 returns c = (
-  simp (c .before .before .before .before .before .before .before .before .flag .ensures, c .before .before .before .before .before .before .from32 .ensures .0, c .before .before .before .before .before .before .before .state-number .ensures, c .before .before .before .before .from322 .ensures .0, c .before .before .before .before .before .state-time .ensures, c .before .before .before .state-car .ensures, c .before .before .state-run .ensures, c .before .pilot-number .ensures, c .from323 .ensures .0),
-  (omega (arith, c .before .before .before .before .from322 .ensures .1, c .before .before .before .before .before .state-time .ensures), c .from323 .ensures .1),
+  simp (c .before .before .before .before .before .before .before .before .before .flag .ensures, c .before .before .before .before .before .before .before .from32 .ensures .0, c .before .before .before .before .before .before .before .before .state-number .ensures, c .before .before .before .before .before .from322 .ensures .0, c .before .before .before .before .before .before .state-time .ensures, c .before .before .before .before .state-car .ensures, c .before .before .before .state-run .ensures, c .before .before .pilot-number .ensures, c .before .from323 .ensures .0, c .flag2 .ensures),
+  (omega (arith, c .before .before .before .before .before .from322 .ensures .1, c .before .before .before .before .before .before .state-time .ensures), c .before .from323 .ensures .1),
 )
 
 pub head-words-spec : {M : Type 1} → statement M
@@ -52,4 +55,5 @@ head-words-spec =
     state-run-requires
     pilot-number-requires
     from32-requires-3
+    flag-requires-2
     returns)

@@ -16,8 +16,8 @@ time-of-requires c κs = search needs
 from32-requires : tie.Need-from32-requires
 from32-requires c κs = search needs
 
-phase-retries-requires : tie.Need-phase-retries-requires
-phase-retries-requires c κs = search needs
+phase-count-requires : tie.Need-phase-count-requires
+phase-count-requires c κs = search needs
 
 from8-requires : tie.Need-from8-requires
 from8-requires c κs = search needs
@@ -30,7 +30,7 @@ from8-requires-2 c κs = search needs
 
 returns : tie.Need-returns
 unfolding wordsOf
-returns c = simp (c .before .before .before .before .before .before .before .flag .ensures, c .before .before .before .before .before .before .phase-number .ensures, c .before .before .before .before .from32 .ensures .0, c .before .before .before .before .before .time-of .ensures, c .before .before .from8 .ensures, c .before .before .before .phase-retries .ensures, c .before .from16 .ensures, c .from82 .ensures)
+returns c = simp (c .before .before .before .before .before .before .before .flag .ensures, c .before .before .before .before .before .before .phase-number .ensures, c .before .before .before .before .from32 .ensures .0, c .before .before .before .before .before .time-of .ensures, c .before .before .from8 .ensures, c .before .before .before .phase-count .ensures, c .before .from16 .ensures, c .from82 .ensures)
 
 pub record-words-spec : {M : Type 1} → statement M
 record-words-spec =
@@ -40,7 +40,7 @@ record-words-spec =
     phase-number-requires
     time-of-requires
     from32-requires
-    phase-retries-requires
+    phase-count-requires
     from8-requires
     from16-requires
     from8-requires-2
