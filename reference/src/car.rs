@@ -192,7 +192,7 @@ impl Car {
         if !self.state.takes(body.kind()) {
             return Err(Refusal::State);
         }
-        if run != self.run || self.state.is_settled_on_other_than(source) {
+        if run != Some(self.run) || self.state.is_settled_on_other_than(source) {
             return Err(Refusal::NoRecord);
         }
         match body {
@@ -346,7 +346,7 @@ impl Config {
 
 impl State {
     /// "PARM.CNF is taken in Asking, Confirmed and Sounding, ATTEN_CHAR.IND in Sounding and
-    /// Requesting, MATCH.CNF in Requesting."
+    /// Requesting, MATCH.CNF in Requesting"; VALIDATE.CNF in none.
     fn takes(&self, kind: Kind) -> bool {
         match self {
             State::Asking { .. } | State::Confirmed { .. } => kind == Kind::ParmCnf,
@@ -377,16 +377,18 @@ fn sounding_frame(sent: u8, run: RunId, random: [u8; 16]) -> Body {
     }
 }
 
-/// The run of a message to a car; 19 for one that only a station receives.
-fn run_for_a_car(body: &Body) -> Result<RunId, Refusal> {
+/// The run of a message to a car, where it has one; 19 for one that only a station receives.
+fn run_for_a_car(body: &Body) -> Result<Option<RunId>, Refusal> {
     match body {
         Body::ParmCnf { run } | Body::AttenChar { run, .. } | Body::MatchCnf { run, .. } => {
-            Ok(*run)
+            Ok(Some(*run))
         }
+        Body::ValidateCnf { .. } => Ok(None),
         Body::ParmReq { .. }
         | Body::StartAttenChar { .. }
         | Body::MnbcSound { .. }
         | Body::AttenCharRsp { .. }
+        | Body::ValidateReq { .. }
         | Body::MatchReq { .. }
         | Body::AttenProfile { .. } => Err(Refusal::OnlyForStations),
     }

@@ -2,20 +2,20 @@
 
 use crate::car::{total, Car, Config, Indication, Report, State};
 use crate::car_script::Event;
-use crate::count::Table;
+use crate::count::{end, Table, ENDS};
 use crate::messages::{Address, Body, Kind, Message};
 use crate::refusal::{self, Refusal};
 use crate::script::Outcome;
-use std::cmp::Ordering;
 use std::fmt;
 
 const STATES: [&str; 7] =
     ["Idle", "Asking", "Confirmed", "Sounding", "Requesting", "Joining", "Matched"];
 
 /// The messages that a car receives, and the states that take them.
-const TAKEN: [(Kind, &[&str]); 3] = [
+const TAKEN: [(Kind, &[&str]); 4] = [
     (Kind::ParmCnf, &["Asking", "Confirmed", "Sounding"]),
     (Kind::AttenChar, &["Sounding", "Requesting"]),
+    (Kind::ValidateCnf, &[]),
     (Kind::MatchCnf, &["Requesting"]),
 ];
 
@@ -50,11 +50,13 @@ const ACCEPTED: [&str; 24] = [
     "MATCH.CNF in Requesting",
 ];
 
-const REFUSED: [&str; 21] = [
+const REFUSED: [&str; 26] = [
     "7 PARM.CNF, not to us",
     "7 PARM.CNF, from us",
     "7 ATTEN_CHAR.IND, not to us",
     "7 ATTEN_CHAR.IND, from us",
+    "7 VALIDATE.CNF, not to us",
+    "7 VALIDATE.CNF, from us",
     "7 MATCH.CNF, not to us",
     "7 MATCH.CNF, from us",
     "11 ATTEN_CHAR.IND in Requesting, other station",
@@ -63,12 +65,15 @@ const REFUSED: [&str; 21] = [
     "15 tick",
     "15 PARM.CNF",
     "15 ATTEN_CHAR.IND",
+    "15 VALIDATE.CNF",
     "15 MATCH.CNF",
     "15 message to a station",
     "18 ATTEN_CHAR.IND in Sounding",
     "19 to all",
     "19 to another",
     "19 to us",
+    "19 VALIDATE.REQ, first",
+    "19 VALIDATE.REQ, second",
     "20 in Requesting",
     "20 in Sounding, first",
     "20 in Sounding, again",
@@ -284,6 +289,10 @@ impl Counts {
                     _ => "another",
                 };
                 self.table.add("7 refused", &format!("19 to {to}"));
+                if let Body::ValidateReq { .. } = message.body {
+                    let which = if to == "all" { "second" } else { "first" };
+                    self.table.add("7 refused", &format!("19 {kind}, {which}"));
+                }
                 format!("19 {kind}")
             }
             Refusal::NotOurs if message.source == us => format!("7 {kind}, from us"),
@@ -324,7 +333,7 @@ impl Counts {
                 match refusal {
                     Refusal::OnlyForStations => (2, !to_us),
                     Refusal::NotOurs => (3, !TAKEN.iter().any(takes)),
-                    Refusal::State => (4, run(&message) != Some(before.run.0)),
+                    Refusal::State => (4, run(&message).is_some_and(|run| run != before.run.0)),
                     Refusal::NoRecord => (5, is_empty),
                     Refusal::NoSounds => (6, is_eleventh(&message, before)),
                     _ => return None,
@@ -419,18 +428,6 @@ impl Counts {
     }
 }
 
-const ENDS: [&str; 4] = ["runs down", "one is left", "fires at its end", "fires with an excess"];
-
-/// How a time ends, or does not.
-fn end(left: u32, elapsed: u32) -> &'static str {
-    match left.cmp(&elapsed) {
-        Ordering::Less => ENDS[3],
-        Ordering::Equal => ENDS[2],
-        Ordering::Greater if left - elapsed == 1 => ENDS[1],
-        Ordering::Greater => ENDS[0],
-    }
-}
-
 /// How a car came to Idle, as the next start's row.
 fn ended(event: &Event, before: &State, indication: Option<Indication>) -> String {
     let why = match (event, before) {
@@ -466,7 +463,7 @@ fn repeated(message: &Message, before: &Car) -> &'static str {
     }
 }
 
-/// The run of a message to a car.
+/// The run of a message to a car, where it has one.
 fn run(message: &Message) -> Option<[u8; 8]> {
     match message.body {
         Body::ParmCnf { run } | Body::AttenChar { run, .. } | Body::MatchCnf { run, .. } => {

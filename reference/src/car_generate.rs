@@ -180,7 +180,7 @@ impl Generator {
             stations: self.random.pick(&[1, 2, 3, 5, 10, 12, 13, 13], 3),
             pace: self.random.pick(&[5, 41, 60, 80, 120, 200], 40),
             limits: self.random.pick(&[1, 2, 5, 25], 2),
-            damage: self.random.pick(&[0, 5, 10, 20], 5),
+            damage: self.random.pick(&[0, 8, 16, 28], 5),
             lost: self.random.pick(&[0, 0, 5, 30], 5),
             early: self.random.pick(&[0, 2, 10, 30], 5),
             silence,
@@ -201,11 +201,11 @@ impl Generator {
             State::Requesting { .. } | State::Joining { .. } if self.random.chance(25) => {
                 self.limit()
             }
-            State::Requesting { .. } | State::Joining { .. } if self.random.chance(5) => {
+            State::Requesting { .. } | State::Joining { .. } if self.random.chance(15) => {
                 60_000 + self.random.below(3) as u32
             }
             _ if self.random.chance(self.mood.limits) => self.limit(),
-            _ if self.random.chance(1) => 60_000 + self.random.below(3) as u32,
+            _ if self.random.chance(2) => 60_000 + self.random.below(3) as u32,
             _ if self.random.chance(15) => 40,
             _ => self.random.below(self.mood.pace + 1) as u32,
         };
@@ -238,8 +238,8 @@ impl Generator {
         match self.random.below(100) {
             0 => 0,
             1 => 84,
-            2 => self.random.below(85),
-            3..=9 => 86 + self.random.below(4011),
+            2..=4 => self.random.below(85),
+            5..=9 => 86 + self.random.below(4011),
             10 | 11 => 4096,
             _ => 85,
         }
@@ -283,8 +283,11 @@ impl Generator {
 
     /// An ATTEN_CHAR.IND with a total as the mood has it.
     fn report(&mut self, run: RunId) -> Body {
+        let is_chosen = matches!(self.car.state, State::Requesting { .. });
+        let is_full = self.car.reports().count() == 10;
         let sounds = match self.random.below(10) {
             0 => 0,
+            1..=3 if is_chosen || is_full => 0,
             1 => self.random.next() as u8,
             _ => 10,
         };
@@ -311,9 +314,9 @@ impl Generator {
 
     fn frame(&mut self) -> Event {
         let message = match self.random.below(100) {
-            0..=63 => self.next_message(),
-            64..=81 => self.any_message(),
-            82..=88 => self.stray_message(),
+            0..=58 => self.next_message(),
+            59..=79 => self.any_message(),
+            80..=85 => self.stray_message(),
             _ => self.station_only_message(),
         };
         let ours = [self.config.car, self.station().station];
@@ -351,7 +354,10 @@ impl Generator {
     /// always another.
     fn any_message(&mut self) -> Message {
         let Network { station, nid, nmk } = self.station();
-        let (kind, silence) = (self.random.below(3), self.mood.silence);
+        let takes_none =
+            matches!(self.car.state, State::Idle | State::Joining { .. } | State::Matched { .. });
+        let kind = self.random.below(if takes_none { 6 } else { 4 });
+        let silence = self.mood.silence;
         let silent = [Silence::Confirming, Silence::Reporting, Silence::Matching];
         let is_silent = silent.get(kind).is_some_and(|from| silence <= *from);
         let run = match self.random.chance(25) || is_silent {
@@ -361,7 +367,11 @@ impl Generator {
         let body = match kind {
             0 => Body::ParmCnf { run },
             1 => self.report(run),
-            _ => Body::MatchCnf { run, nid, nmk },
+            2 => Body::MatchCnf { run, nid, nmk },
+            _ => {
+                let result = self.random.below(5) as u8;
+                Body::ValidateCnf { toggles: self.random.next() as u8, result }
+            }
         };
         body.send(station, self.config.car)
     }
@@ -382,12 +392,14 @@ impl Generator {
         let source = self.random.pick(&[other, station, us], other);
         let destination = self.random.pick(&[us, other, station], us);
         let (run, groups) = (self.car.run, [self.random.next() as u8; 58]);
-        match self.random.below(6) {
+        match self.random.below(8) {
             0 => Body::ParmReq { run }.broadcast(source),
             1 => Body::StartAttenChar { run }.broadcast(source),
             2 => Body::MnbcSound { run, count: 9, random: self.car.random }.broadcast(source),
             3 => Body::AttenCharRsp { run }.send(source, destination),
             4 => Body::MatchReq { run }.send(source, destination),
+            5 => Body::ValidateReq { timer: 0 }.send(source, destination),
+            6 => Body::ValidateReq { timer: self.random.next() as u8 }.broadcast(source),
             _ => Body::AttenProfile { car: us, groups }.send(source, destination),
         }
     }

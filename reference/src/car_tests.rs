@@ -96,6 +96,8 @@ fn matches(station: u8, indication: Indication) -> Seen {
 const CONFIRMATION: Body = Body::ParmCnf { run: RUN };
 const MATCH_CNF: Body = Body::MatchCnf { run: RUN, nid: NETWORK.nid, nmk: NETWORK.nmk };
 
+const VALIDATED: Body = Body::ValidateCnf { toggles: 2, result: 2 };
+
 fn report(sounds: u8, value: u8) -> Body {
     Body::AttenChar { run: RUN, sounds, groups: [value; 58] }
 }
@@ -593,7 +595,11 @@ fn messages_that_only_a_station_receives() {
                 assert_eq!(bench.hear(Body::MatchReq { run }.send(from, to)), Err(19));
                 let profile = Body::AttenProfile { car: US, groups };
                 assert_eq!(bench.hear(profile.send(from, to)), Err(19));
+                let first = Body::ValidateReq { timer: 0 };
+                assert_eq!(bench.hear(first.send(from, to)), Err(19));
             }
+            let second = Body::ValidateReq { timer: 200 };
+            assert_eq!(bench.hear(second.broadcast(from)), Err(19));
         }
     }
 }
@@ -601,7 +607,7 @@ fn messages_that_only_a_station_receives() {
 #[test]
 fn frames_that_are_not_ours() {
     for mut bench in Bench::all() {
-        for body in [CONFIRMATION, report(10, 1), MATCH_CNF] {
+        for body in [CONFIRMATION, report(10, 1), VALIDATED, MATCH_CNF] {
             for (from, to) in [(STATION, OTHER), (STATION, address(2)), (US, US), (US, STATION)] {
                 assert_eq!(bench.hear(body.send(from, to)), Err(7));
             }
@@ -638,6 +644,30 @@ fn what_each_state_takes() {
                 false => assert_eq!(bench.station(right), Err(8)),
             }
         }
+    }
+}
+
+#[test]
+fn no_state_takes_a_validate_confirmation() {
+    for mut bench in Bench::all() {
+        for result in 0..=4 {
+            let body = Body::ValidateCnf { toggles: 255, result };
+            assert_eq!(bench.station(body), Err(8));
+            assert_eq!(bench.hear(body.send(OTHER, US)), Err(8));
+            // 7 before 8, reading before both, 15 before reading.
+            assert_eq!(bench.hear(body.send(STATION, OTHER)), Err(7));
+            let mut frame = body.send(STATION, US).to_frame().unwrap();
+            frame[19] = 1;
+            assert_eq!(bench.octets(&frame), Err(6));
+            assert_eq!(bench.call(84, |car, output| car.receive(&frame, output)), Err(15));
+        }
+        let mut frame = VALIDATED.send(STATION, US).to_frame().unwrap();
+        frame[21] = 5;
+        assert_eq!(bench.octets(&frame), Err(6));
+        // A request to one with a timer can't be read, so it isn't 19.
+        let mut frame = Body::ValidateReq { timer: 0 }.send(OTHER, US).to_frame().unwrap();
+        frame[20] = 1;
+        assert_eq!(bench.octets(&frame), Err(6));
     }
 }
 
@@ -1028,7 +1058,7 @@ fn foreign_frames_change_nothing() {
 
 /// A seed and how many events of it reach every row but 16, and seeds of bad configurations: a
 /// reference of 256, and a first octet that is odd.
-const FULL: (u64, u32) = (135, 3_500);
+const FULL: (u64, u32) = (1_483, 3_500);
 const BAD: [u64; 2] = [45, 90];
 
 fn counted(seed: u64, events: u32) -> String {
@@ -1066,7 +1096,8 @@ impl Bay {
     fn plugged(last: u8, attenuation: u8) -> Bay {
         let (address, modem) = (address(last), Address([2, 0, 0, 0, 1, last]));
         let nid = Nid([last, 0, 0, 0, 0, 0, 0]);
-        let config = station::Config { station: address, modem, nid, nmk: Nmk([last; 16]) };
+        let nmk = Nmk([last; 16]);
+        let config = station::Config { station: address, modem, nid, nmk, exempt: false };
         let (mut station, answer) = Station::configure(config);
         assert_eq!(answer, Ok(()));
         assert!(station.change_pilot(Pilot::B, 0).is_ok());

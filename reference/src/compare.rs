@@ -1,6 +1,6 @@
 //! Compares two outputs of one script, a station's or a car's.
 
-use crate::messages::{Address, Body, Message};
+use crate::messages::{Address, Body, Message, RESULTS};
 use crate::refusal;
 use crate::script::{take_number, Answer};
 use std::io::{self, BufReader, Read};
@@ -66,21 +66,28 @@ fn hex(octets: &[u8]) -> String {
     octets.iter().map(|octet| format!("{octet:02X}")).collect::<Vec<_>>().join(" ")
 }
 
-/// The frames of an answer in words: one frame, or reports of 129 octets.
+/// The frames of an answer in words: those that stand back to back, and what else there is.
 pub fn frames(octets: &[u8]) -> String {
-    let read = match Message::read(octets) {
-        Ok(message) => vec![message],
-        Err(_) => octets.chunks(129).flat_map(Message::read).collect(),
-    };
-    let name = |message: &Message| match message.body {
-        Body::AttenChar { sounds, .. } => {
-            format!("CM_ATTEN_CHAR.IND ({sounds} used) to {}", message.destination)
+    let (messages, left) = Message::read_all(octets);
+    let name = |message: &Message| {
+        let (name, to) = (message.body.kind().name(), message.destination);
+        match message.body {
+            Body::AttenChar { sounds, .. } => format!("{name} ({sounds} used) to {to}"),
+            Body::ValidateCnf { toggles, result } => {
+                let words = RESULTS.get(usize::from(result)).copied().unwrap_or("no such result");
+                match toggles {
+                    0 => format!("{name} ({words}) to {to}"),
+                    _ => format!("{name} ({words}, {toggles} toggles) to {to}"),
+                }
+            }
+            _ => format!("{name} to {to}"),
         }
-        body => format!("{} to {}", body.kind().name(), message.destination),
     };
-    match octets.len() {
-        0 => "no frame".into(),
-        length if read.is_empty() => format!("{length} octets"),
-        _ => read.iter().map(name).collect::<Vec<_>>().join(", "),
+    let mut words: Vec<String> = messages.iter().map(name).collect();
+    if left > 0 {
+        words.push(format!("{left} octets"));
+    } else if words.is_empty() {
+        words.push("no frame".into());
     }
+    words.join(", ")
 }

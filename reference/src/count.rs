@@ -3,7 +3,9 @@
 use crate::messages::{Body, Kind, Message};
 use crate::refusal::{self, Refusal};
 use crate::script::{Event, Outcome};
-use crate::station::{Indication, Phase, State, Station};
+use crate::station::{Config, Indication, Phase, State, Station};
+use crate::validation_count::{named, Validations};
+use std::cmp::Ordering;
 use std::collections::BTreeMap;
 use std::fmt;
 
@@ -55,24 +57,40 @@ fn set(kind: Kind, (from, to): (usize, usize)) -> String {
     }
 }
 
+pub const ENDS: [&str; 4] =
+    ["runs down", "one is left", "fires at its end", "fires with an excess"];
+
+/// How a time ends, or does not.
+pub fn end(left: u32, elapsed: u32) -> &'static str {
+    match left.cmp(&elapsed) {
+        Ordering::Less => ENDS[3],
+        Ordering::Equal => ENDS[2],
+        Ordering::Greater if left - elapsed == 1 => ENDS[1],
+        Ordering::Greater => ENDS[0],
+    }
+}
+
 /// The station's table.
-#[derive(Default)]
-pub struct Counts(Table);
+pub struct Counts {
+    table: Table,
+    validations: Validations,
+}
 
 impl Counts {
     /// A table of zeros.
-    pub fn new() -> Counts {
-        let mut counts = Counts::default();
-        counts.0.refusals(&refusal::OF_STATIONS);
+    pub fn new(config: Config) -> Counts {
+        let mut table = Table::default();
+        table.refusals(&refusal::OF_STATIONS);
         for kind in Kind::ALL {
-            counts.0.row("5 damaged", kind.name());
-            counts.0.row("6 short output", kind.name());
-            if !matches!(kind, Kind::ParmCnf | Kind::AttenChar | Kind::MatchCnf) {
-                counts.0.row("4 accepted", kind.name());
-                counts.0.reserved_rows(kind);
+            table.row("5 damaged", kind.name());
+            table.row("6 short output", kind.name());
+            if !matches!(kind, Kind::ParmCnf | Kind::AttenChar | Kind::ValidateCnf | Kind::MatchCnf)
+            {
+                table.row("4 accepted", kind.name());
+                table.reserved_rows(kind);
             }
         }
-        let mut row = |group, name: &str| counts.0.row(group, name);
+        let mut row = |group, name: &str| table.row(group, name);
         for name in ["tick", "pilot", "terminate", "link up", "query"] {
             row("4 accepted", name);
         }
@@ -89,16 +107,17 @@ impl Counts {
         for name in PASSAGES {
             row("7 passage", name);
         }
-        counts
+        let validations = Validations::new(config, &mut table);
+        Counts { table, validations }
     }
 
     fn add(&mut self, group: &'static str, name: &str) {
-        self.0.add(group, name);
+        self.table.add(group, name);
     }
 
     pub fn configured(&mut self, answer: Result<(), Refusal>) {
         if let Err(refusal) = answer {
-            self.0.refused(refusal);
+            self.table.refused(refusal);
         }
     }
 
@@ -116,7 +135,7 @@ impl Counts {
             Ok((indication, _)) => {
                 self.add("4 accepted", kind);
                 if let Event::Frame { octets, .. } = event {
-                    self.0.reserved(octets);
+                    self.table.reserved(octets);
                 }
                 let indication = match indication {
                     None => "none",
@@ -126,7 +145,7 @@ impl Counts {
                 self.add("2 indication", indication);
             }
             Err(refusal) => {
-                self.0.refused(*refusal);
+                self.table.refused(*refusal);
                 if refusal.number() <= 6 {
                     self.add("5 damaged", kind);
                 } else if *refusal == Refusal::Output {
@@ -136,6 +155,7 @@ impl Counts {
         }
         self.states(after);
         self.passages(event, before, after, outcome);
+        self.validations.event(&mut self.table, event, before, after, outcome);
     }
 
     fn states(&mut self, after: &Station) {
@@ -152,6 +172,7 @@ impl Counts {
         for record in after.records() {
             let phase = match record.phase {
                 Phase::Reported { retries } => format!("record Reported, {retries} retries"),
+                Phase::Validating(step) => format!("record Validating, {}", named(step)),
                 phase => format!("record {phase:?}"),
             };
             self.add("3 after the event", &phase);
@@ -178,7 +199,9 @@ impl Counts {
                 if after.reading < before.reading {
                     self.add("7 passage", "the clock wraps");
                 }
-                format!("tick with {} reports", octets.len() / 129)
+                let (messages, _) = Message::read_all(octets);
+                let is_report = |message: &&Message| message.body.kind() == Kind::AttenChar;
+                format!("tick with {} reports", messages.iter().filter(is_report).count())
             }
             _ => return,
         };
@@ -186,12 +209,13 @@ impl Counts {
     }
 }
 
-const STATES: [&str; 23] = [
+const STATES: [&str; 26] = [
     "Unmatched", "Matching, admission open", "Matching, admission closed", "Joining", "Matched",
     "pilot A", "pilot B", "pilot C", "pilot D", "pilot E", "pilot F", "record Asked",
     "record Sounding", "record Reported, 0 retries", "record Reported, 1 retries",
-    "record Reported, 2 retries", "record Awaiting", "records held: 0", "records held: 1",
-    "records held: 2", "records held: 3", "records held: 4", "records held: 5",
+    "record Reported, 2 retries", "record Awaiting", "record Validating, ready",
+    "record Validating, counting", "record Validating, success", "records held: 0",
+    "records held: 1", "records held: 2", "records held: 3", "records held: 4", "records held: 5",
 ];
 
 const PASSAGES: [&str; 11] = [
@@ -206,7 +230,7 @@ fn refused(number: u32) -> String {
 
 impl fmt::Display for Counts {
     fn fmt(&self, f: &mut fmt::Formatter) -> fmt::Result {
-        self.0.fmt(f)
+        self.table.fmt(f)
     }
 }
 

@@ -3,7 +3,8 @@
 use crate::messages::{Address, Body, Message, Nid, Nmk, RunId};
 use crate::random::Random;
 use crate::script::{write_head, Event};
-use crate::station::{Config, Phase, Pilot, State, Station};
+use crate::station::{Config, Phase, Pilot, Record, State, Station, Step};
+use std::collections::VecDeque;
 use std::io::{self, Write};
 
 /// What an episode from plug-in to plug-in is like.
@@ -14,13 +15,27 @@ struct Mood {
     damage: usize, // how many frames in a hundred are damaged
     matches: bool, // whether cars in Awaiting go on to match
     late: bool,    // whether the clock jumps to the end of admission
+    doubts: usize, // how many steps in a hundred of a car in Awaiting ask for validation
+    many: bool,    // whether a validation has more toggles than are counted
+    hasty: bool,   // whether cars come at once and sounding ends after one profile
+    focus: usize,  // how many frames in a hundred are of a car that has its report
 }
 
 /// Elapsed times at, just below and just above the rules' limits.
-const LIMITS: [u32; 24] = [
-    0, 1, 199, 200, 201, 399, 400, 401, 599, 600, 601, 9_999, 10_000, 11_999, 12_000, 12_001,
-    49_999, 50_000, 59_999, 60_000, 60_001, 60_002, 0x8000_0000, 0xFFFF_FFFF,
+const LIMITS: [u32; 29] = [
+    0, 1, 99, 100, 101, 199, 200, 201, 399, 400, 401, 599, 600, 601, 9_999, 10_000, 11_999, 12_000,
+    12_001, 25_599, 25_600, 49_999, 50_000, 59_999, 60_000, 60_001, 60_002, 0x8000_0000,
+    0xFFFF_FFFF,
 ];
+
+const READY: Phase = Phase::Validating(Step::Ready);
+const SUCCESS: Phase = Phase::Validating(Step::Success);
+
+/// A first validate request.
+const FIRST: Body = Body::ValidateReq { timer: 0 };
+
+/// Timers of a second validate request, mostly small ones.
+const TIMERS: [u8; 14] = [0, 0, 0, 1, 1, 2, 3, 4, 5, 9, 10, 99, 254, 255];
 
 /// Makes events, steered by a station of its own.
 struct Generator {
@@ -31,6 +46,21 @@ struct Generator {
     mood: Mood,
     /// The last reading sent, also one that was refused.
     clock: u32,
+    /// What comes next, mostly.
+    plan: VecDeque<Planned>,
+}
+
+/// An event that is planned.
+#[derive(Clone, Copy)]
+enum Planned {
+    Frame(Message),
+    Tick(u32),
+    /// A tick by the remaining time of the car's record and so much more, less one.
+    End(Address, u32),
+    Pilot(Pilot),
+    /// Any pilot change while a car validates.
+    Toggle,
+    Terminate,
 }
 
 /// `generate SEED EVENTS`.
@@ -57,11 +87,23 @@ impl Generator {
             modem: random.unicast(0xBB),
             nid: Nid(nid),
             nmk: Nmk(random.octets()),
+            exempt: random.chance(20),
         };
         let cars = [1, 2, 3, 4, 5, 6, 7, 8].map(|last| random.unicast(last));
         let (station, _) = Station::configure(config);
-        let mood = Mood { cars: 8, pace: 20, limits: 5, damage: 5, matches: true, late: false };
-        Generator { random, config, station, cars, mood, clock: 0 }
+        let mood = Mood {
+            cars: 8,
+            pace: 20,
+            limits: 5,
+            damage: 5,
+            matches: true,
+            late: false,
+            doubts: 20,
+            many: false,
+            hasty: false,
+            focus: 0,
+        };
+        Generator { random, config, station, cars, mood, clock: 0, plan: VecDeque::new() }
     }
 
     /// The configuration that goes into the script: now and then a bad one.
@@ -82,8 +124,27 @@ impl Generator {
     }
 
     fn event(&mut self) -> Event {
+        let share = match self.validating().map(|record| record.phase) {
+            Some(Phase::Validating(Step::Counting { toggles, .. })) => match self.station.pilot {
+                _ if self.mood.many => {
+                    self.mood.many = toggles < 255 || self.random.chance(75);
+                    99
+                }
+                Pilot::B => 15,
+                _ => 20,
+            },
+            Some(_) => 6,
+            None => 0,
+        };
+        if self.random.chance(share) {
+            return self.toggle();
+        }
+        if let Some(event) = self.planned() {
+            return event;
+        }
         let roll = self.random.below(1000);
         match (self.station.state, roll) {
+            (State::Matched, 0..=399) => self.frame(),
             (State::Unmatched | State::Matched, 0..=549) => self.pilot(),
             (State::Unmatched | State::Matched, 550..=699) => self.frame(),
             (State::Unmatched | State::Matched, 700..=899) => self.tick(),
@@ -117,21 +178,250 @@ impl Generator {
             (_, false) => self.random.pick(&[Pilot::B, Pilot::B, Pilot::C, Pilot::D], Pilot::B),
         };
         if to.is_plugged() {
+            let (few, late) = (self.random.chance(25), self.random.chance(30));
+            let many = self.random.chance(4);
+            let doubts = self.random.pick(&[0, 30, 90, 90, 90], 20);
+            self.plan.clear();
             self.mood = Mood {
-                cars: 1 + self.random.below(8),
+                cars: if few || late { 1 + self.random.below(3) } else { 1 + self.random.below(8) },
                 pace: self.random.pick(&[3, 10, 40, 150], 10),
                 limits: self.random.pick(&[1, 2, 5, 25], 2),
                 damage: self.random.pick(&[0, 3, 8, 20], 5),
                 matches: self.random.chance(60),
-                late: self.random.chance(25),
+                late,
+                doubts: if many { 90 } else { doubts },
+                many,
+                hasty: many || self.random.chance(90),
+                focus: self.random.pick(&[0, 40, 80], 30),
             };
         }
         Event::Pilot { to, reading: self.clock }
     }
 
+    /// The record that is ready or counting.
+    fn validating(&self) -> Option<&Record> {
+        self.station.records().find(|record| record.is_validating())
+    }
+
+    /// Whether the clock is to jump to the end of admission.
+    fn is_late(&self) -> bool {
+        let open = matches!(self.station.state, State::Matching { admission } if admission > 1000);
+        self.mood.late && open
+    }
+
+    /// The next planned event, now and then an odd frame or none; a new plan where there is none.
+    fn planned(&mut self) -> Option<Event> {
+        let State::Matching { .. } = self.station.state else { return None };
+        if !self.mood.hasty || self.is_late() {
+            return None;
+        }
+        match self.random.below(100) {
+            0..=7 => return None,
+            8..=17 => return Some(self.odd_frame()),
+            _ => {}
+        }
+        if self.plan.is_empty() {
+            let is_early = |record: &Record| matches!(record.phase, Phase::Asked | Phase::Sounding);
+            let is_early = self.station.records().all(is_early);
+            self.plan = match is_early {
+                true if self.random.chance(70) => self.arrivals(),
+                true => return None,
+                false => self.validation().or_else(|| self.end())?,
+            };
+        }
+        Some(match self.plan.pop_front()? {
+            Planned::Frame(message) => {
+                let octets = message.to_frame().unwrap_or_default();
+                Event::Frame { octets, room: self.room() }
+            }
+            Planned::Tick(elapsed) => self.tick_by(elapsed),
+            Planned::End(car, more) => {
+                let left = self.station.record(car)?.left;
+                self.tick_by((left + more).saturating_sub(1))
+            }
+            Planned::Pilot(to) => Event::Pilot { to, reading: self.clock },
+            Planned::Toggle => self.toggle(),
+            Planned::Terminate => Event::Terminate,
+        })
+    }
+
+    /// Some cars from their request to the response, mostly with a profile each.
+    fn arrivals(&mut self) -> VecDeque<Planned> {
+        let Config { station, modem, .. } = self.config;
+        let most = self.random.pick(&[1, 2, 3, 3, 5, 5], 1).min(self.mood.cars);
+        let responses = self.random.pick(&[100, 70, 40], 90);
+        let (mut first, mut last) = (Vec::new(), Vec::new());
+        for car in self.cars.into_iter().take(most) {
+            let (run, random) = (RunId(self.random.octets()), self.random.octets());
+            first.push(Body::ParmReq { run }.broadcast(car));
+            first.push(Body::StartAttenChar { run }.broadcast(car));
+            if self.random.chance(40) {
+                let count = self.random.below(12) as u8;
+                first.push(Body::MnbcSound { run, count, random }.broadcast(car));
+            }
+            let profiles = if self.random.chance(4) { 10 } else { 1 };
+            first.extend((0..profiles).map(|_| self.profile(car).send(modem, station)));
+            if self.random.chance(responses) {
+                last.push(Body::AttenCharRsp { run }.send(car, station));
+            }
+        }
+        let first = first.into_iter().map(Planned::Frame);
+        first.chain([Planned::Tick(600)]).chain(last.into_iter().map(Planned::Frame)).collect()
+    }
+
+    /// The cars in a phase, and their runs.
+    fn cars_in(&self, is_in: impl Fn(Phase) -> bool) -> Vec<(Address, RunId)> {
+        let records = self.station.records().filter(|record| is_in(record.phase));
+        records.map(|record| (record.car, record.run)).collect()
+    }
+
+    /// A car in Awaiting goes to one of the three steps, says this and that, and ends.
+    fn validation(&mut self) -> Option<VecDeque<Planned>> {
+        let station = self.config.station;
+        let cars = self.cars_in(|phase| phase == Phase::Awaiting);
+        let (car, run) = self.random.pick(&cars, *cars.first()?);
+        if !self.random.chance(self.mood.doubts) {
+            return None;
+        }
+        let others: Vec<_> = cars.into_iter().filter(|(other, _)| *other != car).collect();
+        let (other, its_run) = self.random.pick(&others, (car, run));
+        let mut plan = VecDeque::from([Planned::Frame(FIRST.send(car, station))]);
+        let successes = self.cars_in(|phase| phase == SUCCESS);
+        let step = match (self.mood.many, successes.is_empty()) {
+            (true, _) => 1,
+            (false, true) => self.random.pick(&[0, 1, 2, 2], 1),
+            (false, false) => self.random.pick(&[0, 1, 2, 2, 2, 2], 1),
+        };
+        if step > 0 {
+            plan.extend([Planned::Toggle; 2].into_iter().take(self.random.below(3)));
+            plan.push_back(Planned::Frame(self.second().broadcast(car)));
+            let toggles = self.random.pick(&[0, 0, 1, 2, 3, 4, 6], 2);
+            plan.extend([Planned::Toggle; 6].into_iter().take(toggles));
+        }
+        if self.mood.many {
+            plan.extend([Planned::Pilot(Pilot::B), Planned::End(car, 1)]);
+            return Some(plan);
+        }
+        if step > 1 {
+            plan.extend([Planned::Pilot(Pilot::B), Planned::End(car, 1)]);
+        }
+        for _ in 0..self.random.below(5) {
+            plan.push_back(Planned::Frame(match self.random.below(8) {
+                0 | 1 => FIRST.send(other, station),
+                2 if step > 1 => Body::MatchReq { run: RunId([7; 8]) }.send(car, station),
+                _ => self.message_of(car, run),
+            }));
+        }
+        if step > 1 && self.random.chance(45) {
+            return Some(plan);
+        }
+        plan.push_back(match self.random.below(8) {
+            0..=2 if other != car => {
+                Planned::Frame(Body::MatchReq { run: its_run }.send(other, station))
+            }
+            _ => self.end_of(car, run),
+        });
+        Some(plan)
+    }
+
+    /// A car that has its report, but isn't in Awaiting, goes on or ends.
+    fn end(&mut self) -> Option<VecDeque<Planned>> {
+        let cars = self.cars_in(|phase| matches!(phase, Phase::Reported { .. }));
+        if let Some((car, run)) = cars.first() {
+            let response = Body::AttenCharRsp { run: *run }.send(*car, self.config.station);
+            let response = Planned::Frame(response);
+            return Some([self.random.pick(&[response, Planned::End(*car, 1)], response)].into());
+        }
+        let cars = self.cars_in(|phase| matches!(phase, Phase::Validating(_)));
+        let (car, run) = self.random.pick(&cars, *cars.first()?);
+        Some([self.end_of(car, run)].into())
+    }
+
+    /// An end of a car's validation.
+    fn end_of(&mut self, car: Address, run: RunId) -> Planned {
+        let late = self.random.below(600) as u32;
+        let loss = self.random.pick(&[Pilot::A, Pilot::E, Pilot::F], Pilot::A);
+        match self.random.below(12) {
+            0 => Planned::Pilot(loss),
+            1 | 2 => Planned::Terminate,
+            3 => Planned::Frame(Body::MatchReq { run }.send(car, self.config.station)),
+            4 => Planned::Frame(Body::ParmReq { run }.broadcast(car)),
+            5 | 6 => Planned::End(car, 0),
+            7 | 8 => Planned::End(car, 1),
+            _ => Planned::End(car, 1 + late),
+        }
+    }
+
+    /// A frame that is refused, mostly: damaged, stray or for cars alone.
+    fn odd_frame(&mut self) -> Event {
+        let Config { station, modem, .. } = self.config;
+        let cars = self.cars_in(|_| true);
+        let (car, _) = self.random.pick(&cars, (self.cars[0], RunId([0; 8])));
+        let ours = self.random.pick(&[station, modem], modem);
+        let (first, second) = (FIRST.send(car, station), self.second().broadcast(car));
+        let message = match self.random.below(10) {
+            0..=2 => self.random.pick(&[first, second], first),
+            3 => self.random.pick(&[FIRST.send(ours, station), FIRST.broadcast(ours)], first),
+            4 => self.stray_message(),
+            _ => self.car_only_message(),
+        };
+        let mut octets = message.to_frame().unwrap_or_default();
+        let length = octets.len();
+        let wrong = self.random.pick(&[0, 1, 0xFF], 1);
+        match self.random.below(20) {
+            0 => octets.resize(length + 1, 0),
+            1 => octets.truncate(19 + self.random.below(3)),
+            2 | 3 => octets[0] ^= 1,
+            4 => octets[6] |= 1,
+            5 => octets[6..12].fill(0),
+            6 => octets[15] = 0x77,
+            7 | 8 => octets[19] = 1 << self.random.below(8),
+            9 => octets[20] = self.random.next() as u8,
+            10 | 11 => octets[21] = self.random.next() as u8,
+            12 => octets[..6].fill(wrong),
+            _ => {}
+        }
+        let room = if self.random.chance(15) { self.random.below(645) } else { self.room() };
+        Event::Frame { octets, room }
+    }
+
+    /// A pilot change while a car validates: mostly B-C-B, now and then the same state again, D
+    /// between, or a loss. Where it takes no reading it may have any.
+    fn toggle(&mut self) -> Event {
+        let to = match (self.station.pilot, self.random.below(100)) {
+            (Pilot::B, _) if self.mood.many => Pilot::C,
+            (_, _) if self.mood.many => Pilot::B,
+            (_, 0) => self.random.pick(&[Pilot::A, Pilot::E, Pilot::F], Pilot::A),
+            (same, 1..=12) => same,
+            (Pilot::D, 13..=56) => Pilot::C,
+            (Pilot::B | Pilot::C, 13..=28) => Pilot::D,
+            (Pilot::B, _) => Pilot::C,
+            _ => Pilot::B,
+        };
+        let any = self.random.next() as u32;
+        let reading = self.random.pick(&[self.clock, self.clock, any], any);
+        Event::Pilot { to, reading }
+    }
+
     fn tick(&mut self) -> Event {
+        let steps: Vec<(Phase, u32)> = self
+            .station
+            .records()
+            .filter(|record| matches!(record.phase, Phase::Validating(_)))
+            .map(|record| (record.phase, record.left))
+            .collect();
+        let share = match self.random.pick(&steps, (Phase::Asked, 0)) {
+            (Phase::Validating(Step::Counting { .. }), left) if !self.mood.many => (25, left),
+            (Phase::Validating(_), left) => (8, left),
+            _ => (0, 0),
+        };
+        if self.random.chance(share.0) {
+            let late = self.random.below(400) as u32;
+            let beyond = self.random.pick(&[0, 1, 2, late], 1);
+            return self.tick_by((share.1 + beyond).saturating_sub(1));
+        }
         let elapsed = match self.station.state {
-            State::Matching { admission } if self.mood.late && admission > 1000 => {
+            State::Matching { admission } if self.is_late() => {
                 admission - 50 - self.random.below(600) as u32
             }
             State::Unmatched | State::Matched if self.random.chance(50) => {
@@ -142,6 +432,12 @@ impl Generator {
             _ if self.random.chance(1) => 60_000 + self.random.below(3) as u32,
             _ => self.random.below(self.mood.pace + 1) as u32,
         };
+        self.tick_by(elapsed)
+    }
+
+    fn tick_by(&mut self, elapsed: u32) -> Event {
+        let gaps = [60_001, 60_002, 0x8000_0000, 0xFFFF_FFFF];
+        let elapsed = if self.random.chance(1) { self.random.pick(&gaps, 0) } else { elapsed };
         let from = if self.random.chance(4) { self.clock } else { self.station.reading };
         self.clock = from.wrapping_add(elapsed);
         Event::Tick { reading: self.clock, room: self.room() }
@@ -166,23 +462,31 @@ impl Generator {
         match self.random.below(100) {
             0 => 0,
             1 => 644,
-            2 => self.random.below(645),
-            3..=9 => 645 + self.random.below(3452),
+            2 | 3 => self.random.below(645),
+            4..=9 => 645 + self.random.below(3452),
             10..=12 => 4096,
             _ => 645,
         }
     }
 
     fn car(&mut self) -> Address {
+        if self.random.chance(self.mood.focus) {
+            let is_far = |record: &&Record| !matches!(record.phase, Phase::Asked | Phase::Sounding);
+            let cars: Vec<Address> =
+                self.station.records().filter(is_far).map(|record| record.car).collect();
+            if !cars.is_empty() {
+                return self.random.pick(&cars, Address([2; 6]));
+            }
+        }
         let car = self.random.below(self.mood.cars);
         self.cars.get(car).copied().unwrap_or(Address([2; 6]))
     }
 
     fn frame(&mut self) -> Event {
         let message = match self.random.below(100) {
-            0..=81 => self.next_step(),
-            82..=89 => self.any_message(),
-            90..=93 => self.stray_message(),
+            0..=77 => self.next_step(),
+            78..=85 => self.any_message(),
+            86..=89 => self.stray_message(),
             _ => self.car_only_message(),
         };
         let Config { station, modem, .. } = self.config;
@@ -194,7 +498,7 @@ impl Generator {
     fn next_step(&mut self) -> Message {
         let (station, car) = (self.config.station, self.car());
         if let State::Joining { car: joining, run, .. } = self.station.state {
-            match self.random.below(10) {
+            match self.random.below(15) {
                 0 => return Body::MatchReq { run }.send(car, station),
                 1 => return Body::MatchReq { run: RunId([7; 8]) }.send(joining, station),
                 2..=6 => return Body::MatchReq { run }.send(joining, station),
@@ -202,6 +506,14 @@ impl Generator {
             }
         }
         let Some(record) = self.station.record(car) else {
+            if !matches!(self.station.state, State::Matching { .. }) {
+                match self.random.below(10) {
+                    0..=2 => return FIRST.send(car, station),
+                    3..=5 => return self.second().broadcast(car),
+                    6..=7 => return self.any_message(),
+                    _ => {}
+                }
+            }
             return Body::ParmReq { run: RunId(self.random.octets()) }.broadcast(car);
         };
         let (run, heard, profiles) = (record.run, record.heard, u32::from(record.profiles));
@@ -217,12 +529,36 @@ impl Generator {
                 let count = self.random.pick(&unheard, 0);
                 Body::MnbcSound { run, count, random: self.random.octets() }.broadcast(car)
             }
-            (Phase::Reported { .. }, 0..=49) => Body::AttenCharRsp { run }.send(car, station),
-            (Phase::Awaiting, roll) if roll < if self.mood.matches { 20 } else { 1 } => {
+            (Phase::Reported { .. }, 0..=64) => Body::AttenCharRsp { run }.send(car, station),
+            (Phase::Awaiting, roll) if roll < self.matches() => {
                 Body::MatchReq { run }.send(car, station)
             }
+            (Phase::Awaiting, roll) if roll >= 100 - self.mood.doubts => FIRST.send(car, station),
+            (READY, 0..=39) => self.second().broadcast(car),
+            (SUCCESS, roll) if roll < self.matches() => Body::MatchReq { run }.send(car, station),
+            (Phase::Validating(_), 0..=84) => self.message_of(car, run),
             _ => self.any_message(),
         }
+    }
+
+    /// How many steps in a hundred of a car that may match are a match request.
+    fn matches(&self) -> usize {
+        match (self.mood.matches, self.mood.doubts) {
+            (false, _) => 1,
+            (true, 0) => 20,
+            (true, _) => 10,
+        }
+    }
+
+    /// A second validate request.
+    fn second(&mut self) -> Body {
+        let any = self.random.next() as u8;
+        let timer = match self.random.below(4) {
+            _ if self.mood.many => 255,
+            0 if self.random.chance(30) => any,
+            _ => self.random.pick(&TIMERS, any),
+        };
+        Body::ValidateReq { timer }
     }
 
     fn profile(&mut self, car: Address) -> Body {
@@ -237,20 +573,28 @@ impl Generator {
 
     /// Any message to the station, of the car's run or now and then another.
     fn any_message(&mut self) -> Message {
-        let (station, car) = (self.config.station, self.car());
+        let car = self.car();
         let run = match self.station.record(car) {
             Some(record) if !self.random.chance(20) => record.run,
             _ => RunId(self.random.octets()),
         };
-        match self.random.below(7) {
+        self.message_of(car, run)
+    }
+
+    /// Any message of that car and run to the station.
+    fn message_of(&mut self, car: Address, run: RunId) -> Message {
+        let station = self.config.station;
+        match self.random.below(12) {
             0 => Body::ParmReq { run }.broadcast(car),
-            1 => Body::StartAttenChar { run }.broadcast(car),
-            2 | 3 => {
+            1 | 2 => Body::StartAttenChar { run }.broadcast(car),
+            3 | 4 => {
                 let count = self.random.pick(&[0, 1, 5, 8, 9, 10, 11, 15, 16, 255], 9);
                 Body::MnbcSound { run, count, random: self.random.octets() }.broadcast(car)
             }
-            4 => self.profile(car).send(self.config.modem, station),
-            5 => Body::AttenCharRsp { run }.send(car, station),
+            5 | 6 => self.profile(car).send(self.config.modem, station),
+            7 | 8 => Body::AttenCharRsp { run }.send(car, station),
+            9 => FIRST.send(car, station),
+            10 => self.second().broadcast(car),
             _ => Body::MatchReq { run }.send(car, station),
         }
     }
@@ -261,7 +605,8 @@ impl Generator {
         let (car, other, run) = (self.car(), self.random.unicast(0xCC), RunId([7; 8]));
         let ours = self.random.pick(&[station, modem], modem);
         let wrong = self.random.pick(&[other, car, station], other);
-        match self.random.below(8) {
+        let wrong_station = self.random.pick(&[other, car, modem], other);
+        match self.random.below(11) {
             0 => Body::AttenCharRsp { run }.send(car, other),
             1 => Body::MatchReq { run }.send(car, wrong),
             2 => self.profile(car).send(modem, other),
@@ -269,6 +614,9 @@ impl Generator {
             4 => self.profile(ours).send(modem, station),
             5 => Body::ParmReq { run }.broadcast(ours),
             6 => Body::MatchReq { run }.send(ours, station),
+            7 => FIRST.send(car, wrong_station),
+            8 => FIRST.send(ours, station),
+            9 => self.second().broadcast(ours),
             _ => Body::MatchReq { run }.send(car, modem),
         }
     }
@@ -277,9 +625,11 @@ impl Generator {
         let Config { station, nid, nmk, .. } = self.config;
         let (car, other) = (self.car(), self.random.unicast(0xCC));
         let (run, sounds) = (RunId(self.random.octets()), self.random.next() as u8);
-        let body = match self.random.below(3) {
+        let result = self.random.below(5) as u8;
+        let body = match self.random.below(5) {
             0 => Body::ParmCnf { run },
             1 => Body::AttenChar { run, sounds, groups: self.random.octets() },
+            2 | 3 => Body::ValidateCnf { toggles: self.random.next() as u8, result },
             _ => Body::MatchCnf { run, nid, nmk },
         };
         body.send(
@@ -289,8 +639,8 @@ impl Generator {
     }
 }
 
-/// `demo`: a whole matching of one car; the neighbour's frames are heard on the same line, but it
-/// matches with the next station.
+/// `demo`: a whole matching of one car, with a validation by two toggles; the neighbour's frames
+/// are heard on the same line, but it validates and matches with the next station.
 pub fn demo(script: &mut impl Write) -> io::Result<()> {
     let address = |last| Address([2, 0, 0, 0, 0, last]);
     let (station, modem, next_station) = (address(0xAA), address(0xBB), address(0xCC));
@@ -298,14 +648,16 @@ pub fn demo(script: &mut impl Write) -> io::Result<()> {
     let (neighbour, its_run) = (address(2), RunId([0x22; 8]));
     let mut events = vec![Event::Pilot { to: Pilot::B, reading: 1000 }];
     let mut clock = 1000;
-    let mut hear = |messages: &[Message]| {
+    let mut pass = |messages: &[Message], pilot: Option<Pilot>, time: u32| {
         for message in messages {
             let octets = message.to_frame().unwrap_or_default();
             events.push(Event::Frame { octets, room: 645 });
         }
-        clock += 20;
+        events.extend(pilot.map(|to| Event::Pilot { to, reading: clock }));
+        clock += time;
         events.push(Event::Tick { reading: clock, room: 645 });
     };
+    let mut hear = |messages: &[Message]| pass(messages, None, 20);
     hear(&[
         Body::ParmReq { run: its_run }.broadcast(neighbour),
         Body::ParmReq { run }.broadcast(car),
@@ -327,12 +679,21 @@ pub fn demo(script: &mut impl Write) -> io::Result<()> {
         Body::AttenCharRsp { run }.send(car, station),
         Body::AttenCharRsp { run: its_run }.send(neighbour, station),
     ]);
+    hear(&[FIRST.send(neighbour, next_station), FIRST.send(car, station)]);
+    let second = Body::ValidateReq { timer: 4 };
+    hear(&[second.broadcast(neighbour), second.broadcast(car)]);
+    for to in [Pilot::C, Pilot::B, Pilot::C, Pilot::B] {
+        pass(&[], Some(to), 100);
+    }
+    pass(&[], None, 80);
+    let mut hear = |messages: &[Message]| pass(messages, None, 20);
     hear(&[
         Body::MatchReq { run: its_run }.send(neighbour, next_station),
         Body::MatchReq { run }.send(car, station),
     ]);
     events.push(Event::LinkUp);
-    let config = Config { station, modem, nid: Nid([1, 2, 3, 4, 5, 6, 7]), nmk: Nmk([0x4B; 16]) };
+    let (nid, nmk) = (Nid([1, 2, 3, 4, 5, 6, 7]), Nmk([0x4B; 16]));
+    let config = Config { station, modem, nid, nmk, exempt: false };
     write_head(script, &config, u32::try_from(events.len()).map_err(io::Error::other)?)?;
     events.iter().try_for_each(|event| event.write(script))
 }

@@ -18,6 +18,7 @@ mod show;
 mod station;
 #[cfg(test)]
 mod tests;
+mod validation_count;
 
 use car::Car;
 use count::Counts;
@@ -124,7 +125,7 @@ fn show(input: impl Read, replies: Option<File>, out: &mut impl Write) -> io::Re
 fn count(input: impl Read, out: &mut impl Write) -> io::Result<bool> {
     let mut script = Script::open(input)?;
     let (mut station, answer) = Station::configure(script.config);
-    let mut counts = Counts::new();
+    let mut counts = Counts::new(script.config);
     counts.configured(answer);
     while let Some(event) = script.next_event()? {
         let before = station.clone();

@@ -1,4 +1,4 @@
-//! The nine messages: frames read and written ("Frame head and sizes", "Payload octets").
+//! The eleven messages: frames read and written ("Frame head and sizes", "Payload octets").
 
 use crate::refusal::Refusal;
 use std::fmt;
@@ -54,36 +54,62 @@ pub enum Kind {
     AttenChar,
     AttenCharRsp,
     MnbcSound,
+    ValidateReq,
+    ValidateCnf,
     MatchReq,
     MatchCnf,
     AttenProfile,
 }
 
+/// To whom a message goes.
+#[derive(Clone, Copy, Debug, PartialEq, Eq)]
+pub enum Destination {
+    Broadcast,
+    Unicast,
+    Either,
+}
+
+impl Destination {
+    /// Whether the address is of this kind.
+    pub fn allows(self, to: Address) -> bool {
+        match self {
+            Destination::Broadcast => to == Address::BROADCAST,
+            Destination::Unicast => to.is_unicast(),
+            Destination::Either => to == Address::BROADCAST || to.is_unicast(),
+        }
+    }
+}
+
 impl Kind {
-    pub const ALL: [Kind; 9] = [
+    pub const ALL: [Kind; 11] = [
         Kind::ParmReq,
         Kind::ParmCnf,
         Kind::StartAttenChar,
         Kind::AttenChar,
         Kind::AttenCharRsp,
         Kind::MnbcSound,
+        Kind::ValidateReq,
+        Kind::ValidateCnf,
         Kind::MatchReq,
         Kind::MatchCnf,
         Kind::AttenProfile,
     ];
 
-    /// Name, type, payload length and whether it is broadcast.
-    fn row(self) -> (&'static str, u16, usize, bool) {
+    /// Name, type, payload length and destination.
+    fn row(self) -> (&'static str, u16, usize, Destination) {
+        use Destination::{Broadcast, Either, Unicast};
         match self {
-            Kind::ParmReq => ("CM_SLAC_PARM.REQ", 0x6064, 10, true),
-            Kind::ParmCnf => ("CM_SLAC_PARM.CNF", 0x6065, 25, false),
-            Kind::StartAttenChar => ("CM_START_ATTEN_CHAR.IND", 0x606A, 19, true),
-            Kind::AttenChar => ("CM_ATTEN_CHAR.IND", 0x606E, 110, false),
-            Kind::AttenCharRsp => ("CM_ATTEN_CHAR.RSP", 0x606F, 51, false),
-            Kind::MnbcSound => ("CM_MNBC_SOUND.IND", 0x6076, 52, true),
-            Kind::MatchReq => ("CM_SLAC_MATCH.REQ", 0x607C, 66, false),
-            Kind::MatchCnf => ("CM_SLAC_MATCH.CNF", 0x607D, 90, false),
-            Kind::AttenProfile => ("CM_ATTEN_PROFILE.IND", 0x6086, 66, false),
+            Kind::ParmReq => ("CM_SLAC_PARM.REQ", 0x6064, 10, Broadcast),
+            Kind::ParmCnf => ("CM_SLAC_PARM.CNF", 0x6065, 25, Unicast),
+            Kind::StartAttenChar => ("CM_START_ATTEN_CHAR.IND", 0x606A, 19, Broadcast),
+            Kind::AttenChar => ("CM_ATTEN_CHAR.IND", 0x606E, 110, Unicast),
+            Kind::AttenCharRsp => ("CM_ATTEN_CHAR.RSP", 0x606F, 51, Unicast),
+            Kind::MnbcSound => ("CM_MNBC_SOUND.IND", 0x6076, 52, Broadcast),
+            Kind::ValidateReq => ("CM_VALIDATE.REQ", 0x6078, 3, Either),
+            Kind::ValidateCnf => ("CM_VALIDATE.CNF", 0x6079, 3, Unicast),
+            Kind::MatchReq => ("CM_SLAC_MATCH.REQ", 0x607C, 66, Unicast),
+            Kind::MatchCnf => ("CM_SLAC_MATCH.CNF", 0x607D, 90, Unicast),
+            Kind::AttenProfile => ("CM_ATTEN_PROFILE.IND", 0x6086, 66, Unicast),
         }
     }
 
@@ -105,7 +131,7 @@ impl Kind {
         self.shortest().max(60)
     }
 
-    pub fn is_broadcast(self) -> bool {
+    pub fn destination(self) -> Destination {
         self.row().3
     }
 
@@ -131,15 +157,48 @@ impl Kind {
 /// What a message says, apart from who sends it to whom.
 #[derive(Clone, Copy, Debug, PartialEq, Eq)]
 pub enum Body {
-    ParmReq { run: RunId },
-    ParmCnf { run: RunId },
-    StartAttenChar { run: RunId },
-    AttenChar { run: RunId, sounds: u8, groups: Groups },
-    AttenCharRsp { run: RunId },
-    MnbcSound { run: RunId, count: u8, random: [u8; 16] },
-    MatchReq { run: RunId },
-    MatchCnf { run: RunId, nid: Nid, nmk: Nmk },
-    AttenProfile { car: Address, groups: Groups },
+    ParmReq {
+        run: RunId,
+    },
+    ParmCnf {
+        run: RunId,
+    },
+    StartAttenChar {
+        run: RunId,
+    },
+    AttenChar {
+        run: RunId,
+        sounds: u8,
+        groups: Groups,
+    },
+    AttenCharRsp {
+        run: RunId,
+    },
+    MnbcSound {
+        run: RunId,
+        count: u8,
+        random: [u8; 16],
+    },
+    /// To a station the first request, with the timer 0; to all the second.
+    ValidateReq {
+        timer: u8,
+    },
+    ValidateCnf {
+        toggles: u8,
+        result: u8,
+    },
+    MatchReq {
+        run: RunId,
+    },
+    MatchCnf {
+        run: RunId,
+        nid: Nid,
+        nmk: Nmk,
+    },
+    AttenProfile {
+        car: Address,
+        groups: Groups,
+    },
 }
 
 #[derive(Clone, Copy, Debug, PartialEq, Eq)]
@@ -148,6 +207,13 @@ pub struct Message {
     pub source: Address,
     pub body: Body,
 }
+
+/// The results of a CM_VALIDATE.CNF, by their numbers.
+pub const RESULTS: [&str; 5] = ["not ready", "ready", "success", "failure", "not required"];
+pub const READY: u8 = 1;
+pub const SUCCESS: u8 = 2;
+pub const FAILURE: u8 = 3;
+pub const NOT_REQUIRED: u8 = 4;
 
 /// NUM_SOUNDS, TIME_OUT and RESP_TYPE.
 const SOUNDING: [u8; 3] = [0x0A, 0x06, 0x01];
@@ -171,6 +237,8 @@ impl Body {
             Body::AttenChar { .. } => Kind::AttenChar,
             Body::AttenCharRsp { .. } => Kind::AttenCharRsp,
             Body::MnbcSound { .. } => Kind::MnbcSound,
+            Body::ValidateReq { .. } => Kind::ValidateReq,
+            Body::ValidateCnf { .. } => Kind::ValidateCnf,
             Body::MatchReq { .. } => Kind::MatchReq,
             Body::MatchCnf { .. } => Kind::MatchCnf,
             Body::AttenProfile { .. } => Kind::AttenProfile,
@@ -192,6 +260,8 @@ impl Body {
             Kind::MnbcSound => {
                 Body::MnbcSound { run: run(20)?, count: octet(19)?, random: octets(payload, 36)? }
             }
+            Kind::ValidateReq => Body::ValidateReq { timer: octet(1)? },
+            Kind::ValidateCnf => Body::ValidateCnf { toggles: octet(1)?, result: octet(2)? },
             Kind::MatchReq => Body::MatchReq { run: run(50)? },
             Kind::MatchCnf => {
                 let (nid, nmk) = (Nid(octets(payload, 66)?), Nmk(octets(payload, 74)?));
@@ -210,7 +280,10 @@ impl Message {
     pub fn car(&self) -> Option<Address> {
         match self.body {
             Body::AttenProfile { car, .. } => Some(car),
-            Body::ParmCnf { .. } | Body::AttenChar { .. } | Body::MatchCnf { .. } => None,
+            Body::ParmCnf { .. }
+            | Body::AttenChar { .. }
+            | Body::ValidateCnf { .. }
+            | Body::MatchCnf { .. } => None,
             _ => Some(self.source),
         }
     }
@@ -239,6 +312,21 @@ impl Message {
         Ok(body.send(from, to))
     }
 
+    /// The written frames that stand back to back, up to one that cannot be read, and how many
+    /// octets are left.
+    pub fn read_all(mut octets: &[u8]) -> (Vec<Message>, usize) {
+        let mut messages = Vec::new();
+        let next = |octets: &[u8]| {
+            let length = Kind::of(octets)?.written();
+            Some((Message::read(octets.get(..length)?).ok()?, length))
+        };
+        while let Some((message, length)) = next(octets) {
+            messages.push(message);
+            octets = &octets[length..];
+        }
+        (messages, octets.len())
+    }
+
     /// The written frame, zero padded; "Writing: 5, 6".
     pub fn to_frame(self) -> Result<Vec<u8>, Refusal> {
         let mut frame = vec![0; self.body.kind().written()];
@@ -251,7 +339,13 @@ impl Message {
         let Message { destination, source, body } = self;
         let kind = body.kind();
         check_addresses(kind, *destination, *source, self.car().unwrap_or(*source))?;
-        if matches!(body, Body::MatchCnf { nid, .. } if !nid.is_valid()) {
+        let limited = match body {
+            Body::MatchCnf { nid, .. } => nid.is_valid(),
+            Body::ValidateReq { timer } => *destination == Address::BROADCAST || *timer == 0,
+            Body::ValidateCnf { result, .. } => *result <= NOT_REQUIRED,
+            _ => true,
+        };
+        if !limited {
             return Err(Refusal::Octet);
         }
         let frame = output.get_mut(..kind.written()).ok_or(Refusal::Output)?;
@@ -267,8 +361,7 @@ impl Message {
 
 /// Refusal 5: "source, destination or PROFILE's car of the wrong kind".
 fn check_addresses(kind: Kind, to: Address, from: Address, car: Address) -> Result<(), Refusal> {
-    let destined = if kind.is_broadcast() { to == Address::BROADCAST } else { to.is_unicast() };
-    let good = destined && from.is_unicast() && car.is_unicast();
+    let good = kind.destination().allows(to) && from.is_unicast() && car.is_unicast();
     good.then_some(()).ok_or(Refusal::AddressKind)
 }
 
@@ -293,6 +386,11 @@ fn is_fixed(kind: Kind, p: &[u8], to: &[u8], from: &[u8]) -> bool {
         Kind::AttenChar => zero(0, 2) && p[2..8] == *to && zero(16, 50) && p[51] == GROUPS,
         Kind::AttenCharRsp => zero(0, 2) && p[2..8] == *from && zero(16, 51),
         Kind::MnbcSound => zero(0, 19),
+        Kind::ValidateReq => {
+            let is_second = *to == Address::BROADCAST.0;
+            p[0] == 0 && (is_second || p[1] == 0) && p[2] == READY
+        }
+        Kind::ValidateCnf => p[0] == 0 && p[2] <= NOT_REQUIRED,
         Kind::MatchReq => matching(0x3E, from, to),
         Kind::MatchCnf => matching(0x56, to, from) && p[72] <= 0x3F,
         Kind::AttenProfile => p[6] == GROUPS,
@@ -310,6 +408,8 @@ fn write_payload(body: &Body, payload: &mut [u8], to: &[u8], from: &[u8]) {
         }
         Body::AttenCharRsp { run } => &[(2, from), (8, &run.0)],
         Body::MnbcSound { run, count, random } => &[(19, &[*count]), (20, &run.0), (36, random)],
+        Body::ValidateReq { timer } => &[(1, &[*timer, READY])],
+        Body::ValidateCnf { toggles, result } => &[(1, &[*toggles, *result])],
         Body::MatchReq { run } => &[(2, &[0x3E]), (21, from), (44, to), (50, &run.0)],
         Body::MatchCnf { run, nid, nmk } => {
             &[(2, &[0x56]), (21, to), (44, from), (50, &run.0), (66, &nid.0), (74, &nmk.0)]

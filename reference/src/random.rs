@@ -86,16 +86,17 @@ impl Random {
         let end = self.pick(&end, group);
         let kind = self.pick(&Kind::ALL, Kind::ParmReq);
         let near = kind.type_number().wrapping_add(self.below(3) as u16);
+        let shortest = Kind::of(octets).map_or(19, Kind::shortest);
         match self.below(12) {
             0..=4 => {
                 let any = self.below(length);
-                let at = self.pick(&[any, any, any, 17, 18, 19, 70, 91], any);
+                let payload = 19 + self.below(shortest - 19);
+                let at = self.pick(&[any, any, payload, payload, 17, 18, 19, 70, 91], any);
                 let bit = 1 << self.below(8);
                 octets.iter_mut().skip(at).take(1).for_each(|octet| *octet ^= bit);
             }
             5 => octets.truncate(self.below(length)),
             6 => {
-                let shortest = Kind::of(octets).map_or(19, Kind::shortest);
                 octets.truncate(self.pick(&[0, 18, 19, 20, shortest - 1], shortest));
             }
             7 => octets.resize(MOST.min(length + 1 + self.below(60)), 0),

@@ -118,6 +118,7 @@ pub fn write_head(script: &mut impl Write, config: &Config, events: u32) -> io::
     script.write_all(&config.modem.0)?;
     script.write_all(&config.nid.0)?;
     script.write_all(&config.nmk.0)?;
+    write_number(script, u32::from(config.exempt))?;
     write_number(script, events)
 }
 
@@ -154,6 +155,15 @@ pub fn take<const N: usize>(input: &mut impl Read) -> io::Result<[u8; N]> {
 /// The next number, low octet first.
 pub fn take_number(input: &mut impl Read) -> io::Result<u32> {
     take(input).map(u32::from_le_bytes)
+}
+
+/// The next number, which is 1 for yes or 0 for no.
+fn take_yes_or_no(input: &mut impl Read) -> io::Result<bool> {
+    match take_number(input)? {
+        0 => Ok(false),
+        1 => Ok(true),
+        _ => Err(broken("a setting that is neither 1 nor 0")),
+    }
 }
 
 /// The next number, which is at most 4,096.
@@ -244,6 +254,7 @@ impl<R: Read> Script<R> {
             modem: Address(take(&mut input)?),
             nid: Nid(take(&mut input)?),
             nmk: Nmk(take(&mut input)?),
+            exempt: take_yes_or_no(&mut input)?,
         };
         Ok(Script { entries: Entries::open(input)?, config })
     }

@@ -3,7 +3,7 @@
 use crate::compare;
 use crate::messages::{Address, Body, Kind, Message};
 use crate::script::{Answer, Event};
-use crate::station::{Phase, State, Station};
+use crate::station::{Phase, State, Station, Step};
 
 pub const HEADING: &str = "      time  event                            car                \
 state afterwards                          reply; indication";
@@ -34,6 +34,12 @@ fn describe(event: &Event) -> (String, Option<Address>) {
                 Body::MnbcSound { count, .. } => {
                     (format!("CM_MNBC_SOUND.IND {count}"), message.car())
                 }
+                Body::ValidateReq { timer } => match message.destination {
+                    Address::BROADCAST => {
+                        (format!("CM_VALIDATE.REQ second, {timer}"), message.car())
+                    }
+                    _ => ("CM_VALIDATE.REQ first".into(), message.car()),
+                },
                 body => (body.kind().name().into(), message.car()),
             },
             Err(_) => (format!("{} damaged", Kind::of(octets).map_or("frame", Kind::name)), None),
@@ -52,12 +58,25 @@ fn state(station: &Station, car: Option<Address>) -> String {
         Some(record) => {
             let phase = match record.phase {
                 Phase::Reported { retries } => format!("Reported ({retries} retries)"),
+                Phase::Validating(Step::Ready) => "Validating, ready".into(),
+                Phase::Validating(Step::Counting { toggles, begun }) => {
+                    format!("Validating, {}", counted(toggles, begun))
+                }
+                Phase::Validating(Step::Success) => "Validating, success".into(),
                 phase => format!("{phase:?}"),
             };
             format!("{phase}, {} ms", record.left)
         }
         None if car.is_some() => "no record".into(),
-        None => format!("{} held", station.records().count()),
+        None => {
+            let counting = station.records().find_map(|record| match record.phase {
+                Phase::Validating(Step::Counting { toggles, begun }) => {
+                    Some(format!(", {}", counted(toggles, begun)))
+                }
+                _ => None,
+            });
+            format!("{} held{}", station.records().count(), counting.unwrap_or_default())
+        }
     };
     match station.state {
         State::Unmatched => "Unmatched".into(),
@@ -66,4 +85,9 @@ fn state(station: &Station, car: Option<Address>) -> String {
         State::Joining { left, .. } => format!("Joining, {left} ms"),
         State::Matched => "Matched".into(),
     }
+}
+
+/// The toggles of a validation in words.
+fn counted(toggles: u8, begun: bool) -> String {
+    format!("toggles: {toggles}{}", if begun { ", one begun" } else { "" })
 }

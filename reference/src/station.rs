@@ -1,6 +1,7 @@
 //! The station: state, records, the five calls and the service query ("The station").
 
 use crate::messages::{Address, Body, Groups, Kind, Message, Nid, Nmk, RunId};
+use crate::messages::{FAILURE, NOT_REQUIRED, READY, SUCCESS};
 use crate::refusal::Refusal;
 
 const ADMISSION: u32 = 50_000;
@@ -8,6 +9,10 @@ const ASKED: u32 = 400;
 const SOUNDING: u32 = 600;
 const REPORTED: u32 = 200;
 const AWAITING: u32 = 10_000;
+const VALIDATING_READY: u32 = 400;
+/// A window is so long times one more than the timer of the second request.
+const WINDOW: u32 = 100;
+const VALIDATING_SUCCESS: u32 = 10_000;
 const JOINING: u32 = 12_000;
 const RETRIES: u8 = 2;
 const PROFILES: u16 = 10;
@@ -21,6 +26,8 @@ pub struct Config {
     pub modem: Address,
     pub nid: Nid,
     pub nmk: Nmk,
+    /// Whether validation is not required.
+    pub exempt: bool,
 }
 
 /// The control pilot's states.
@@ -58,6 +65,19 @@ pub enum Phase {
     Sounding,
     Reported { retries: u8 },
     Awaiting,
+    Validating(Step),
+}
+
+/// The steps of a validation.
+#[derive(Clone, Copy, Debug, PartialEq, Eq)]
+pub enum Step {
+    Ready,
+    /// The toggles counted in the window, and whether one is begun.
+    Counting {
+        toggles: u8,
+        begun: bool,
+    },
+    Success,
 }
 
 /// One car's run.
@@ -146,6 +166,8 @@ impl Station {
             self.state = State::Matching { admission: ADMISSION };
             self.records = Default::default();
             self.reading = reading;
+        } else {
+            self.records.iter_mut().flatten().for_each(|record| record.toggle(from, to));
         }
         Ok(Accepted { written: 0, indication })
     }
@@ -179,7 +201,7 @@ impl Station {
         let car = message.car().ok_or(Refusal::CarOnly)?;
         config.concerns(&message, car)?;
         match (self.state, message.body) {
-            (State::Matching { .. }, body) => self.matching(car, body, config, &mut output)?,
+            (State::Matching { .. }, _) => self.matching(car, &message, config, &mut output)?,
             (State::Joining { car: joining, run: its, .. }, Body::MatchReq { run }) => {
                 if (car, run) != (joining, its) {
                     return Err(Refusal::NoRecord);
@@ -192,8 +214,14 @@ impl Station {
     }
 
     /// A frame in Matching, for each message the rule under "Frames".
-    fn matching(&mut self, car: Address, body: Body, config: Config, out: &mut Output) -> Checked {
-        match body {
+    fn matching(
+        &mut self,
+        car: Address,
+        message: &Message,
+        config: Config,
+        out: &mut Output,
+    ) -> Checked {
+        match message.body {
             Body::ParmReq { run } => {
                 let place = self.place(car)?;
                 out.send(Body::ParmCnf { run }, config.station, car)?;
@@ -204,7 +232,9 @@ impl Station {
                 match record.phase {
                     Phase::Asked => record.enter(Phase::Sounding, SOUNDING),
                     Phase::Sounding => {}
-                    Phase::Reported { .. } | Phase::Awaiting => return Err(Refusal::Phase),
+                    Phase::Reported { .. } | Phase::Awaiting | Phase::Validating(_) => {
+                        return Err(Refusal::Phase);
+                    }
                 }
             }
             Body::MnbcSound { run, count, .. } => {
@@ -228,19 +258,56 @@ impl Station {
                 record.enter(Phase::Awaiting, AWAITING);
             }
             Body::MatchReq { run } => {
-                let Phase::Awaiting = self.run(car, run)?.phase else { return Err(Refusal::Phase) };
+                let (Phase::Awaiting | Phase::Validating(Step::Success)) =
+                    self.run(car, run)?.phase
+                else {
+                    return Err(Refusal::Phase);
+                };
                 out.send(config.match_cnf(run), config.station, car)?;
                 self.state = State::Joining { left: JOINING, car, run };
                 self.records = Default::default();
             }
-            Body::ParmCnf { .. } | Body::AttenChar { .. } | Body::MatchCnf { .. } => {
-                return Err(Refusal::CarOnly);
-            }
+            // "The destination alone tells the two requests apart."
+            Body::ValidateReq { timer } => match message.destination {
+                Address::BROADCAST => self.second_validate_req(car, timer)?,
+                _ => self.first_validate_req(car, config, out)?,
+            },
+            Body::ParmCnf { .. }
+            | Body::AttenChar { .. }
+            | Body::ValidateCnf { .. }
+            | Body::MatchCnf { .. } => return Err(Refusal::CarOnly),
         }
         Ok(())
     }
 
-    /// A clock tick: "16, 15, 14"; reports of one tick stand back to back, in record order.
+    /// The first REQ of a validation: "in Awaiting, else 12; in Awaiting it is answered each time".
+    fn first_validate_req(&mut self, car: Address, config: Config, out: &mut Output) -> Checked {
+        let is_busy = self.records().any(Record::is_validating);
+        let record = self.held(car)?;
+        let Phase::Awaiting = record.phase else { return Err(Refusal::Phase) };
+        let result = match (config.exempt, is_busy) {
+            (true, _) => NOT_REQUIRED,
+            (false, true) => FAILURE,
+            (false, false) => READY,
+        };
+        out.send(Body::ValidateCnf { toggles: 0, result }, config.station, car)?;
+        if result == READY {
+            record.enter(Phase::Validating(Step::Ready), VALIDATING_READY);
+        }
+        Ok(())
+    }
+
+    /// The second REQ: "in ready, else 12: counting, 100 * (timer + 1), no toggles, none begun".
+    fn second_validate_req(&mut self, car: Address, timer: u8) -> Checked {
+        let record = self.held(car)?;
+        let Phase::Validating(Step::Ready) = record.phase else { return Err(Refusal::Phase) };
+        let counting = Step::Counting { toggles: 0, begun: false };
+        record.enter(Phase::Validating(counting), WINDOW * (u32::from(timer) + 1));
+        Ok(())
+    }
+
+    /// A clock tick: "16, 15, 14"; reports of one tick stand back to back, in record order, and
+    /// the confirmations of validations behind them, in record order too.
     pub fn tick(&mut self, reading: u32, output: &mut [u8]) -> Answer {
         let config = self.config()?;
         let mut output = Output::lent(output)?;
@@ -253,8 +320,13 @@ impl Station {
         match &mut self.state {
             State::Unmatched | State::Matched => {}
             State::Matching { admission } => {
+                let mut confirmations = Vec::new();
                 for place in &mut self.records {
-                    run_down(place, elapsed, config.station, &mut output)?;
+                    let confirmation = run_down(place, elapsed, self.pilot, config, &mut output)?;
+                    confirmations.extend(confirmation);
+                }
+                for (car, body) in confirmations {
+                    output.send(body, config.station, car)?;
                 }
                 *admission = admission.saturating_sub(elapsed);
                 if *admission == 0 && self.records().next().is_none() {
@@ -313,9 +385,8 @@ impl Config {
 
     /// Refusal 7: "unicast not to us; PROFILE's source not our modem; car is us or our modem".
     fn concerns(&self, message: &Message, car: Address) -> Checked {
-        let kind = message.body.kind();
-        let to_us = kind.is_broadcast() || message.destination == self.station;
-        let measured = kind != Kind::AttenProfile || message.source == self.modem;
+        let to_us = [Address::BROADCAST, self.station].contains(&message.destination);
+        let measured = message.body.kind() != Kind::AttenProfile || message.source == self.modem;
         let ours = to_us && measured && car != self.station && car != self.modem;
         ours.then_some(()).ok_or(Refusal::NotOurs)
     }
@@ -345,6 +416,25 @@ impl Record {
         }
     }
 
+    /// Whether the record is ready or counting.
+    pub fn is_validating(&self) -> bool {
+        matches!(self.phase, Phase::Validating(Step::Ready | Step::Counting { .. }))
+    }
+
+    /// A pilot change among B, C and D, in a record that counts: "B to C begins a toggle; C to B
+    /// ends one that is begun, and the count goes up by one, at most to 255; the same state again
+    /// changes nothing; any other change leaves none begun".
+    fn toggle(&mut self, from: Pilot, to: Pilot) {
+        let Phase::Validating(Step::Counting { toggles, begun }) = &mut self.phase else { return };
+        if from == to {
+            return;
+        }
+        if *begun && (from, to) == (Pilot::C, Pilot::B) {
+            *toggles = toggles.saturating_add(1);
+        }
+        *begun = (from, to) == (Pilot::B, Pilot::C);
+    }
+
     /// "Values added, one more counted."
     fn add(&mut self, groups: &Groups) {
         for (sum, value) in self.sums.iter_mut().zip(groups) {
@@ -362,25 +452,49 @@ impl Record {
     }
 }
 
+/// A confirmation that a tick sends, and to whom.
+type Confirmation = (Address, Body);
+
 /// A tick for one record: "a time fires when remaining is at most elapsed; the excess is dropped,
-/// one firing per record per tick. Otherwise the elapsed is taken off."
-fn run_down(place: &mut Option<Record>, elapsed: u32, us: Address, output: &mut Output) -> Checked {
-    let Some(record) = place else { return Ok(()) };
+/// one firing per record per tick. Otherwise the elapsed is taken off." A report is sent at once,
+/// a confirmation is given back.
+fn run_down(
+    place: &mut Option<Record>,
+    elapsed: u32,
+    pilot: Pilot,
+    config: Config,
+    output: &mut Output,
+) -> Result<Option<Confirmation>, Refusal> {
+    let Some(record) = place else { return Ok(None) };
     if record.left > elapsed {
         record.left -= elapsed;
-        return Ok(());
+        return Ok(None);
     }
+    let car = record.car;
+    let confirm = |toggles, result| Some((car, Body::ValidateCnf { toggles, result }));
     let retries = match record.phase {
         Phase::Sounding if record.profiles > 0 => RETRIES,
         Phase::Reported { retries } if retries > 0 => retries - 1,
-        Phase::Asked | Phase::Sounding | Phase::Reported { .. } | Phase::Awaiting => {
+        Phase::Validating(Step::Counting { toggles, .. }) if pilot == Pilot::B => {
+            record.enter(Phase::Validating(Step::Success), VALIDATING_SUCCESS);
+            return Ok(confirm(toggles, SUCCESS));
+        }
+        Phase::Validating(Step::Counting { .. }) => {
             *place = None;
-            return Ok(());
+            return Ok(confirm(0, FAILURE));
+        }
+        Phase::Asked
+        | Phase::Sounding
+        | Phase::Reported { .. }
+        | Phase::Awaiting
+        | Phase::Validating(Step::Ready | Step::Success) => {
+            *place = None;
+            return Ok(None);
         }
     };
-    output.send(record.report(), us, record.car)?;
+    output.send(record.report(), config.station, car)?;
     record.enter(Phase::Reported { retries }, REPORTED);
-    Ok(())
+    Ok(None)
 }
 
 /// The lent output: frames stand back to back from its first octet.

@@ -1,29 +1,32 @@
-//! The paper's bench cases P1 to P12, and each of its rules at least once.
+//! The paper's bench cases P1 to P12 and V1 to V10, and each of its rules at least once.
 
-use crate::messages::{Address, Body, Kind, Message, Nid, Nmk, RunId};
+use crate::messages::{Address, Body, Destination, Kind, Message, Nid, Nmk, RunId};
 use crate::refusal::Refusal;
 use crate::script::{write_head, Event};
-use crate::station::{Answer, Config, Indication, Phase, Pilot, State, Station};
-use crate::{compare, count, generate};
+use crate::station::{Answer, Config, Indication, Phase, Pilot, State, Station, Step};
+use crate::{compare, count, generate, show, validation_count};
 
 const fn address(last: u8) -> Address {
     Address([2, 0, 0, 0, 0, last])
 }
 
 const CAR: Address = address(1);
+const OTHER: Address = address(2);
 const US: Address = address(0xAA);
 const MODEM: Address = address(0xBB);
 const RUN: RunId = RunId([1, 2, 3, 4, 5, 6, 7, 8]);
 const NID: Nid = Nid([1, 2, 3, 4, 5, 6, 0x3F]);
-const CONFIG: Config = Config { station: US, modem: MODEM, nid: NID, nmk: Nmk([0x4B; 16]) };
+const CONFIG: Config =
+    Config { station: US, modem: MODEM, nid: NID, nmk: Nmk([0x4B; 16]), exempt: false };
 const REQUEST: Body = Body::ParmReq { run: RUN };
 const START: Body = Body::StartAttenChar { run: RUN };
 const MATCH: Body = Body::MatchReq { run: RUN };
 const RESPONSE: Body = Body::AttenCharRsp { run: RUN };
+const FIRST: Body = Body::ValidateReq { timer: 0 };
 const OTHER_RUN: Body = Body::MatchReq { run: RunId([0; 8]) };
 
-/// Each of the nine messages, as a station would see it.
-fn nine() -> [Message; 9] {
+/// Each of the eleven messages, as a station would see it.
+fn eleven() -> [Message; 11] {
     let (run, groups) = (RUN, std::array::from_fn(|group| group as u8));
     [
         REQUEST.broadcast(CAR),
@@ -32,10 +35,26 @@ fn nine() -> [Message; 9] {
         Body::AttenChar { run, sounds: 10, groups }.send(US, CAR),
         RESPONSE.send(CAR, US),
         Body::MnbcSound { run, count: 9, random: [0xA5; 16] }.broadcast(CAR),
+        second(9).broadcast(CAR),
+        Body::ValidateCnf { toggles: 3, result: 2 }.send(US, CAR),
         MATCH.send(CAR, US),
-        Body::MatchCnf { run, nid: NID, nmk: CONFIG.nmk }.send(US, CAR),
+        match_cnf(),
         Body::AttenProfile { car: CAR, groups }.send(MODEM, US),
     ]
+}
+
+fn match_cnf() -> Message {
+    Body::MatchCnf { run: RUN, nid: NID, nmk: CONFIG.nmk }.send(US, CAR)
+}
+
+/// The second validate request, to all.
+fn second(timer: u8) -> Body {
+    Body::ValidateReq { timer }
+}
+
+/// The answer to a validate request.
+fn validated(car: Address, result: u8, toggles: u8) -> Message {
+    Body::ValidateCnf { toggles, result }.send(US, car)
 }
 
 fn sound(count: u8) -> Body {
@@ -61,13 +80,18 @@ fn replies(messages: &[Message]) -> Seen {
     Ok((messages.iter().flat_map(|message| message.to_frame().unwrap()).collect(), None))
 }
 
+#[derive(Clone)]
 struct Bench(Station);
 
 impl Bench {
-    fn new() -> Bench {
-        let (station, answer) = Station::configure(CONFIG);
+    fn with(config: Config) -> Bench {
+        let (station, answer) = Station::configure(config);
         assert_eq!(answer, Ok(()));
         Bench(station)
+    }
+
+    fn new() -> Bench {
+        Bench::with(CONFIG)
     }
 
     fn plugged() -> Bench {
@@ -104,10 +128,10 @@ impl Bench {
         self.octets(&message.to_frame().unwrap())
     }
 
-    /// A message of the first car.
+    /// A message of the first car; a validate request is the first one.
     fn car(&mut self, body: Body) -> Seen {
-        let to = if body.kind().is_broadcast() { Address::BROADCAST } else { US };
-        self.hear(body.send(CAR, to))
+        let to_all = body.kind().destination() == Destination::Broadcast;
+        self.hear(body.send(CAR, if to_all { Address::BROADCAST } else { US }))
     }
 
     /// Each of these messages of the first car gets that refusal.
@@ -156,9 +180,62 @@ impl Bench {
         bench
     }
 
+    /// Two cars in Awaiting, the pilot at B.
+    fn two_awaiting() -> Bench {
+        let mut bench = Bench::plugged();
+        bench.bring_to_awaiting(&[CAR, OTHER]);
+        bench
+    }
+
+    fn bring_to_awaiting(&mut self, cars: &[Address]) {
+        for car in cars {
+            assert!(self.hear(REQUEST.broadcast(*car)).is_ok());
+            assert_eq!(self.hear(START.broadcast(*car)), NOTHING);
+            assert_eq!(self.profile(*car, 40), NOTHING);
+        }
+        assert!(self.tick(600).is_ok());
+        cars.iter().for_each(|car| assert_eq!(self.hear(RESPONSE.send(*car, US)), NOTHING));
+    }
+
+    /// The first car is ready.
+    fn ready() -> Bench {
+        let mut bench = Bench::two_awaiting();
+        assert_eq!(bench.car(FIRST), replies(&[validated(CAR, 1, 0)]));
+        bench
+    }
+
+    /// The first car counts, for so long.
+    fn counting(timer: u8) -> Bench {
+        let mut bench = Bench::ready();
+        assert_eq!(bench.hear(second(timer).broadcast(CAR)), NOTHING);
+        bench
+    }
+
+    /// The first car has had its success, without a toggle.
+    fn success() -> Bench {
+        let mut bench = Bench::counting(0);
+        assert_eq!(bench.tick(100), replies(&[validated(CAR, 2, 0)]));
+        bench
+    }
+
+    /// Pilot changes among B, C and D; their readings aren't looked at.
+    fn toggle(&mut self, states: &[Pilot]) {
+        for (to, reading) in states.iter().zip([7, 4_000_000_000, 0].into_iter().cycle()) {
+            let before = self.0.reading;
+            assert_eq!((self.pilot(*to, reading), self.0.reading), (NOTHING, before));
+        }
+    }
+
+    fn step(&self, car: Address) -> Option<(Step, u32)> {
+        match self.phase(car) {
+            Some((Phase::Validating(step), left)) => Some((step, left)),
+            _ => None,
+        }
+    }
+
     fn joining() -> Bench {
         let mut bench = Bench::awaiting();
-        assert_eq!(bench.car(MATCH), replies(&[nine()[7]]));
+        assert_eq!(bench.car(MATCH), replies(&[match_cnf()]));
         bench
     }
 }
@@ -250,7 +327,7 @@ fn is_reserved(kind: Kind, at: usize) -> bool {
 
 #[test]
 fn every_octet_but_the_reserved_ones_is_looked_at() {
-    for (message, kind) in nine().into_iter().zip(Kind::ALL) {
+    for (message, kind) in eleven().into_iter().zip(Kind::ALL) {
         let frame = message.to_frame().unwrap();
         assert_eq!((message.body.kind(), frame.len()), (kind, kind.written()));
         for length in 0..=frame.len() + 1 {
@@ -282,13 +359,15 @@ fn every_octet_but_the_reserved_ones_is_looked_at() {
 #[test]
 fn reserved_octets_are_skipped_and_the_identifiers_are_not() {
     // SOUND 28-35, MATCH.REQ 58-65, MATCH.CNF 58-65 and 73, PROFILE 7.
-    for (message, places) in nine().into_iter().zip([
+    for (message, places) in eleven().into_iter().zip([
         vec![],
         vec![],
         vec![],
         vec![],
         vec![],
         (28..=35).collect(),
+        vec![],
+        vec![],
         (58..=65).collect(),
         (58..=65).chain([73]).collect(),
         vec![7],
@@ -301,10 +380,10 @@ fn reserved_octets_are_skipped_and_the_identifiers_are_not() {
         assert_eq!(Message::read(&filled), Ok(message));
         assert_eq!(Message::read(&filled[..kind.shortest()]), Ok(message));
     }
-    let matching = [(6, 4..=20), (6, 27..=43), (7, 4..=20), (7, 27..=43)];
+    let matching = [(8, 4..=20), (8, 27..=43), (9, 4..=20), (9, 27..=43)];
     let zeros = [(5, 2..=18), (3, 16..=49), (4, 16..=50)].into_iter().chain(matching);
     for (message, at) in zeros.flat_map(|(message, run)| run.map(move |at| (message, at))) {
-        let mut frame = nine()[message].to_frame().unwrap();
+        let mut frame = eleven()[message].to_frame().unwrap();
         frame[19 + at] = 1;
         assert_eq!(Message::read(&frame), Err(Refusal::Octet));
     }
@@ -324,14 +403,14 @@ fn a_newer_car_is_taken() {
     assert_eq!(bench.tick(600), replies(&[report(CAR, 1, 40)]));
     assert_eq!(bench.car(RESPONSE), NOTHING);
     // The reply has zeros there.
-    assert_eq!(bench.octets(&set(MATCH.send(CAR, US), 58, 66)), replies(&[nine()[7]]));
-    assert_eq!(bench.octets(&set(MATCH.send(CAR, US), 58, 66)), replies(&[nine()[7]]));
-    assert_eq!(nine()[7].to_frame().unwrap()[19 + 58..19 + 66], [0; 8]);
+    assert_eq!(bench.octets(&set(MATCH.send(CAR, US), 58, 66)), replies(&[match_cnf()]));
+    assert_eq!(bench.octets(&set(MATCH.send(CAR, US), 58, 66)), replies(&[match_cnf()]));
+    assert_eq!(match_cnf().to_frame().unwrap()[19 + 58..19 + 66], [0; 8]);
 }
 
 #[test]
 fn the_order_of_reading() {
-    let mut frame = nine()[8].to_frame().unwrap();
+    let mut frame = eleven()[10].to_frame().unwrap();
     for (at, octet, number) in [(19 + 6, 0x3B, 6), (19, 3, 5), (6, 3, 5), (0, 3, 5)] {
         frame[at] = octet;
         assert_eq!(Message::read(&frame).map_err(Refusal::number), Err(number));
@@ -350,10 +429,14 @@ fn the_order_of_reading() {
 #[test]
 fn addresses_of_the_wrong_kind() {
     let bad = [Address([0; 6]), Address([1, 0, 0, 0, 0, 0]), Address::BROADCAST];
-    for message in nine() {
-        let broadcast = message.body.kind().is_broadcast();
+    for message in eleven().into_iter().chain([FIRST.send(CAR, US)]) {
+        let allowed = message.body.kind().destination();
         let mut cases: Vec<_> = bad.iter().map(|bad| Message { source: *bad, ..message }).collect();
-        let ends = if broadcast { vec![US, bad[0], bad[1]] } else { bad.to_vec() };
+        let ends = match allowed {
+            Destination::Broadcast => vec![US, bad[0], bad[1]],
+            Destination::Unicast => bad.to_vec(),
+            Destination::Either => bad[..2].to_vec(),
+        };
         cases.extend(ends.iter().map(|end| Message { destination: *end, ..message }));
         for case in cases {
             assert_eq!(case.to_frame(), Err(Refusal::AddressKind));
@@ -371,9 +454,9 @@ fn the_order_of_writing() {
     let mut output = [0xEE; 109];
     assert_eq!(body.send(US, Address::BROADCAST).write(&mut []), Err(Refusal::AddressKind));
     assert_eq!(body.send(US, CAR).write(&mut []), Err(Refusal::Octet));
-    assert_eq!(nine()[7].write(&mut output[..108]), Err(Refusal::Output));
+    assert_eq!(match_cnf().write(&mut output[..108]), Err(Refusal::Output));
     assert_eq!(output, [0xEE; 109]);
-    assert_eq!(nine()[7].write(&mut output), Ok(109));
+    assert_eq!(match_cnf().write(&mut output), Ok(109));
 }
 
 #[test]
@@ -478,7 +561,7 @@ fn joining_and_link_up() {
     let mut bench = Bench::joining();
     assert_eq!((bench.0.records().count(), bench.0.sounds_heard(CAR)), (0, Err(Refusal::NoRecord)));
     assert_eq!(bench.tick(11_999), NOTHING);
-    assert_eq!(bench.car(MATCH), replies(&[nine()[7]]));
+    assert_eq!(bench.car(MATCH), replies(&[match_cnf()]));
     assert_eq!(bench.0.state, State::Joining { left: 1, car: CAR, run: RUN });
     bench.refuses(8, &[REQUEST, START, RESPONSE, sound(1)]);
     bench.refuses(11, &[OTHER_RUN]);
@@ -589,15 +672,24 @@ fn a_script_is_answered_event_by_event() {
     for length in 0..whole.len() {
         let mut part = Vec::new();
         assert!(crate::run(&whole[..length], &mut part).is_err());
-        assert!(output.starts_with(&part) && part.is_empty() == (length < 39));
+        assert!(output.starts_with(&part) && part.is_empty() == (length < 43));
     }
     assert!(crate::run(&[&whole[..], &[0]].concat()[..], &mut Vec::new()).is_err());
-    for (at, octet) in [(39, 6), (48, 0x10), (52, 0x10), (55, 6), (51, 2)] {
+    for (at, octet) in [(43, 6), (52, 0x10), (56, 0x10), (59, 6), (55, 2)] {
         let (mut broken, mut output) = (whole.clone(), Vec::new());
         broken[at] = octet;
         broken[at + 1] |= u8::from(octet == 0x10);
         assert!(crate::run(&broken[..], &mut output).is_err());
         assert_eq!(output, number(0));
+    }
+    // The setting behind the NMK is a number, 1 or 0; another breaks the layout.
+    let mut exempt = whole.clone();
+    exempt[35] = 1;
+    assert!(crate::run(&exempt[..], &mut Vec::new()).unwrap());
+    for (at, octet) in [(35, 2), (35, 0xFF), (36, 1), (38, 0x80)] {
+        let (mut broken, mut output) = (whole.clone(), Vec::new());
+        broken[at] = octet;
+        assert!(crate::run(&broken[..], &mut output).is_err() && output.is_empty());
     }
 }
 
@@ -613,9 +705,11 @@ fn random_scripts_come_from_their_seed_and_compare_equal() {
     assert!(compare(0, 2).is_err_and(|words| words.starts_with("event ")));
 }
 
-/// A seed and how many events of it reach every row but 16, and a seed of a bad configuration.
-const FULL: (u64, u32) = (110, 2_500);
-const BAD: (u64, u32) = (5, 250);
+/// Seeds and how many events of them: one reaches every row but 16 and those of a station that
+/// doesn't require validation, one these, and one has a bad configuration.
+const FULL: (u64, u32) = (34_035, 2_800);
+const EXEMPT: (u64, u32) = (234, 700);
+const BAD: (u64, u32) = (22, 250);
 
 fn random_script(seed: u64, events: u32) -> Vec<u8> {
     let mut script = Vec::new();
@@ -633,11 +727,19 @@ fn counted(seed: u64, events: u32) -> Vec<String> {
 #[test]
 fn a_random_script_reaches_every_row() {
     let full = counted(FULL.0, FULL.1);
+    let is_exempt = |row: &String| {
+        validation_count::EXEMPT.iter().any(|name| row.contains(&format!(" {name}  ")))
+    };
     let zeros: Vec<&String> = full.iter().filter(|row| row.ends_with(" 0")).collect();
-    assert!(matches!(zeros[..], [row] if row.contains("16 bad configuration")), "{zeros:?}");
+    let (exempt, others): (Vec<&String>, Vec<&String>) =
+        zeros.into_iter().partition(|row| is_exempt(row));
+    assert_eq!(exempt.len(), validation_count::EXEMPT.len());
+    assert!(matches!(others[..], [row] if row.contains("16 bad configuration")), "{others:?}");
+    let reached = counted(EXEMPT.0, EXEMPT.1);
+    assert!(reached.iter().filter(|row| is_exempt(row)).all(|row| !row.ends_with(" 0")));
     // A row that the table did not foresee would be one more.
-    let rows = count::Counts::new().to_string().lines().count();
-    assert_eq!(full.len(), rows);
+    let rows = count::Counts::new(CONFIG).to_string().lines().count();
+    assert_eq!((full.len(), reached.len()), (rows, rows));
     let bad = counted(BAD.0, BAD.1);
     let row = bad.iter().find(|row| row.contains("16 bad configuration")).unwrap();
     assert!(row.ends_with(" 251") && bad.len() == rows);
@@ -648,5 +750,357 @@ fn the_demo_ends_in_link_established() {
     let (mut script, mut shown) = (Vec::new(), Vec::new());
     generate::demo(&mut script).unwrap();
     assert!(crate::show(&script[..], None, &mut shown).unwrap());
-    assert!(String::from_utf8(shown).unwrap().ends_with("link established\n"));
+    let shown = String::from_utf8(shown).unwrap();
+    assert!(shown.contains("CM_VALIDATE.CNF (success, 2 toggles)"));
+    assert!(shown.ends_with("link established\n"));
+}
+
+#[test]
+fn v1_the_first_request_and_a_second_car() {
+    let mut bench = Bench::two_awaiting();
+    let frame = "02 00 00 00 00 AA 02 00 00 00 00 01 88 E1 01 78 60 00 00 00 00 01";
+    assert_eq!(FIRST.send(CAR, US).to_frame(), Ok(octets(frame, 38)));
+    let reply = "02 00 00 00 00 01 02 00 00 00 00 AA 88 E1 01 79 60 00 00 00 00 01";
+    assert_eq!(bench.octets(&octets(frame, 38)), Ok((octets(reply, 38), None)));
+    assert_eq!(bench.step(CAR), Some((Step::Ready, 400)));
+    let before = bench.0.clone();
+    for _ in 0..2 {
+        assert_eq!(bench.hear(FIRST.send(OTHER, US)), replies(&[validated(OTHER, 3, 0)]));
+        assert_eq!(bench.0, before);
+    }
+    // It is free again behind the result, and so is a station with a success.
+    assert_eq!(bench.hear(second(0).broadcast(CAR)), NOTHING);
+    assert_eq!(bench.hear(FIRST.send(OTHER, US)), replies(&[validated(OTHER, 3, 0)]));
+    assert_eq!(bench.tick(100), replies(&[validated(CAR, 2, 0)]));
+    assert_eq!(bench.hear(FIRST.send(OTHER, US)), replies(&[validated(OTHER, 1, 0)]));
+    assert_eq!(bench.step(CAR), Some((Step::Success, 10_000)));
+}
+
+#[test]
+fn v2_two_toggles() {
+    let mut bench = Bench::counting(9);
+    assert_eq!(bench.step(CAR), Some((Step::Counting { toggles: 0, begun: false }, 1_000)));
+    assert_eq!((bench.car(MATCH), bench.tick(500)), (Err(12), NOTHING));
+    bench.toggle(&[Pilot::C, Pilot::B, Pilot::C]);
+    assert_eq!(bench.step(CAR), Some((Step::Counting { toggles: 1, begun: true }, 500)));
+    bench.toggle(&[Pilot::B]);
+    assert_eq!((bench.tick(499), bench.car(MATCH)), (NOTHING, Err(12)));
+    assert_eq!(bench.tick(1), replies(&[validated(CAR, 2, 2)]));
+    let reply = "02 00 00 00 00 01 02 00 00 00 00 AA 88 E1 01 79 60 00 00 00 02 02";
+    assert_eq!(validated(CAR, 2, 2).to_frame(), Ok(octets(reply, 38)));
+    assert_eq!(bench.car(MATCH), replies(&[match_cnf()]));
+    assert_eq!(bench.0.state, State::Joining { left: 12_000, car: CAR, run: RUN });
+    assert_eq!(bench.0.records().count(), 0);
+}
+
+#[test]
+fn v3_the_pilot_at_c_when_the_window_ends() {
+    for state in [Pilot::C, Pilot::D] {
+        let mut bench = Bench::counting(1);
+        bench.toggle(&[Pilot::C, Pilot::B, state]);
+        assert_eq!(bench.tick(200), replies(&[validated(CAR, 3, 0)]));
+        assert_eq!(bench.phase(CAR), None);
+        assert_eq!(bench.phase(OTHER), Some((Phase::Awaiting, 9_800)));
+    }
+}
+
+#[test]
+fn v4_v7_v8_v9_what_is_a_toggle() {
+    use Pilot::{B, C, D};
+    let cases: [(&[Pilot], u8); 11] = [
+        (&[C, D, C, B], 0),
+        (&[C, C, B], 1),
+        (&[], 0),
+        (&[B, B], 0),
+        (&[C, B, B, C, C, C, B], 2),
+        (&[D, B, C, B], 1),
+        (&[D, C, B], 0),
+        (&[C, D, B], 0),
+        (&[C, B, D, C, B, C, B], 2),
+        (&[C, D, D, C, B], 0),
+        (&[C, B, C, D, C, B], 1),
+    ];
+    for (states, toggles) in cases {
+        let mut bench = Bench::counting(0);
+        bench.toggle(states);
+        assert_eq!(bench.tick(100), replies(&[validated(CAR, 2, toggles)]));
+        assert_eq!(bench.step(CAR), Some((Step::Success, 10_000)));
+        assert_eq!(bench.car(MATCH), replies(&[match_cnf()]));
+    }
+    // Changes before the second request don't count, nor does one that it finds begun.
+    let mut bench = Bench::ready();
+    bench.toggle(&[C, B, C]);
+    assert_eq!(bench.hear(second(0).broadcast(CAR)), NOTHING);
+    bench.toggle(&[C, B]);
+    assert_eq!(bench.step(CAR), Some((Step::Counting { toggles: 0, begun: false }, 100)));
+    bench.toggle(&[C, B]);
+    assert_eq!(bench.tick(100), replies(&[validated(CAR, 2, 1)]));
+    // Nor do changes behind the result.
+    bench.toggle(&[C, B, D]);
+    assert_eq!(bench.step(CAR), Some((Step::Success, 10_000)));
+}
+
+#[test]
+fn toggles_count_up_to_255() {
+    let mut bench = Bench::counting(255);
+    assert_eq!(bench.step(CAR).map(|(_, left)| left), Some(25_600));
+    for count in 1..=300_u16 {
+        bench.toggle(&[Pilot::C, Pilot::B]);
+        let toggles = count.min(255) as u8;
+        assert_eq!(bench.step(CAR), Some((Step::Counting { toggles, begun: false }, 25_600)));
+    }
+    assert_eq!(bench.tick(25_599), NOTHING);
+    assert_eq!(bench.tick(1), replies(&[validated(CAR, 2, 255)]));
+}
+
+#[test]
+fn v5_no_second_request() {
+    let mut bench = Bench::ready();
+    assert_eq!((bench.tick(399), bench.step(CAR)), (NOTHING, Some((Step::Ready, 1))));
+    assert_eq!((bench.tick(1), bench.phase(CAR)), (NOTHING, None));
+    assert_eq!(bench.hear(second(0).broadcast(CAR)), Err(11));
+    let mut bench = Bench::success();
+    bench.toggle(&[Pilot::C]);
+    assert_eq!((bench.tick(9_999), bench.step(CAR)), (NOTHING, Some((Step::Success, 1))));
+    assert_eq!((bench.tick(1), bench.phase(CAR)), (NOTHING, None));
+}
+
+#[test]
+fn v6_not_required() {
+    let mut bench = Bench::with(Config { exempt: true, ..CONFIG });
+    assert_eq!(bench.pilot(Pilot::B, 0), NOTHING);
+    bench.bring_to_awaiting(&[CAR, OTHER]);
+    assert_eq!(bench.tick(10), NOTHING);
+    for car in [CAR, CAR, OTHER] {
+        assert_eq!(bench.hear(FIRST.send(car, US)), replies(&[validated(car, 4, 0)]));
+        assert_eq!(bench.phase(car), Some((Phase::Awaiting, 9_990)));
+        assert_eq!(bench.hear(second(0).broadcast(car)), Err(12));
+    }
+    assert_eq!(bench.hear(FIRST.send(address(3), US)), Err(11));
+    assert_eq!(bench.car(MATCH), replies(&[match_cnf()]));
+    bench.refuses(8, &[FIRST]);
+}
+
+#[test]
+fn v10_failure_and_no_link_in_one_tick() {
+    let late = |car: Address| {
+        let mut bench = Bench::plugged();
+        assert_eq!(bench.tick(49_000), NOTHING);
+        bench.bring_to_awaiting(&[car]);
+        assert_eq!(bench.hear(FIRST.send(car, US)), replies(&[validated(car, 1, 0)]));
+        bench
+    };
+    let mut bench = late(CAR);
+    assert_eq!(bench.hear(second(3).broadcast(CAR)), NOTHING);
+    bench.toggle(&[Pilot::C]);
+    assert_eq!((bench.tick(399), bench.0.state), (NOTHING, State::Matching { admission: 1 }));
+    let failed = validated(CAR, 3, 0).to_frame().unwrap();
+    assert_eq!(bench.tick(1), Ok((failed, Some(Indication::NoLink))));
+    assert_eq!((bench.0.state, bench.0.pilot), (State::Unmatched, Pilot::C));
+    // Ready that fires, and a success that stays and then fires.
+    assert_eq!(late(CAR).tick(400), NO_LINK);
+    let mut bench = late(CAR);
+    assert_eq!(bench.hear(second(3).broadcast(CAR)), NOTHING);
+    assert_eq!(bench.tick(60_000), replies(&[validated(CAR, 2, 0)]));
+    assert_eq!(bench.0.state, State::Matching { admission: 0 });
+    assert_eq!((bench.tick(9_999), bench.tick(1)), (NOTHING, NO_LINK));
+}
+
+#[test]
+fn confirmations_stand_behind_reports() {
+    // The first record validates, the others report.
+    let mut bench = Bench::plugged();
+    bench.bring_to_awaiting(&[CAR]);
+    let others = [OTHER, address(3)];
+    for car in others {
+        assert!(bench.hear(REQUEST.broadcast(car)).is_ok());
+        assert_eq!(bench.hear(START.broadcast(car)), NOTHING);
+        assert_eq!(bench.profile(car, car.0[5]), NOTHING);
+    }
+    assert_eq!(bench.car(FIRST), replies(&[validated(CAR, 1, 0)]));
+    assert_eq!(bench.hear(second(4).broadcast(CAR)), NOTHING);
+    let reports = others.map(|car| report(car, 1, car.0[5]));
+    let success = validated(CAR, 2, 0);
+    let mut together = bench.clone();
+    assert_eq!(together.tick(600), replies(&[reports[0], reports[1], success]));
+    assert_eq!(together.call(644, |station, output| station.tick(0, output)), Err(15));
+    bench.toggle(&[Pilot::C]);
+    let failure = validated(CAR, 3, 0);
+    let (octets, _) = bench.tick(600).unwrap();
+    assert_eq!(Message::read_all(&octets), (vec![reports[0], reports[1], failure], 0));
+    assert_eq!(octets.len(), 2 * 129 + 60);
+    assert_eq!(bench.tick(200), replies(&reports));
+}
+
+#[test]
+fn requests_in_other_phases() {
+    let mut bench = Bench::plugged();
+    let both = [FIRST.send(CAR, US), second(7).broadcast(CAR)];
+    let refused = |bench: &mut Bench, numbers: [u32; 2]| {
+        let seen = both.map(|message| bench.hear(message));
+        assert_eq!(seen, numbers.map(Err));
+    };
+    refused(&mut Bench::new(), [8, 8]);
+    refused(&mut bench, [11, 11]);
+    assert!(bench.car(REQUEST).is_ok());
+    refused(&mut bench, [12, 12]);
+    refused(&mut Bench::sounding(), [12, 12]);
+    refused(&mut Bench::reported(), [12, 12]);
+    assert_eq!(Bench::awaiting().hear(both[1]), Err(12));
+    assert_eq!(Bench::ready().hear(both[0]), Err(12));
+    refused(&mut Bench::counting(0), [12, 12]);
+    refused(&mut Bench::success(), [12, 12]);
+    let mut joining = Bench::joining();
+    refused(&mut joining, [8, 8]);
+    assert!(joining.link_up().is_ok());
+    refused(&mut joining, [8, 8]);
+    // 7 before 8, and 17 before both.
+    for strange in [US, MODEM] {
+        assert_eq!(bench.hear(FIRST.send(strange, US)), Err(7));
+        assert_eq!(bench.hear(second(0).broadcast(strange)), Err(7));
+    }
+    for to in [OTHER, MODEM] {
+        assert_eq!(Bench::new().hear(FIRST.send(CAR, to)), Err(7));
+    }
+    assert_eq!(Bench::new().hear(validated(US, 1, 0)), Err(17));
+    assert_eq!(Bench::ready().hear(validated(CAR, 0, 255)), Err(17));
+}
+
+#[test]
+fn other_messages_while_a_car_validates() {
+    let steps = [Bench::ready(), Bench::counting(0), Bench::success()];
+    for (mut bench, is_success) in steps.into_iter().zip([false, false, true]) {
+        bench.refuses(12, &[START, RESPONSE, sound(0), sound(10)]);
+        assert_eq!(bench.profile(CAR, 1), Err(12));
+        bench.refuses(11, &[OTHER_RUN]);
+        assert_eq!(bench.0.sounds_heard(CAR), Ok(0));
+        match is_success {
+            true => assert_eq!(bench.clone().car(MATCH), replies(&[match_cnf()])),
+            false => bench.refuses(12, &[MATCH]),
+        }
+        // A restart, another car's match, a pilot loss and terminate send no confirmation.
+        let cnf = Body::ParmCnf { run: RUN }.send(US, CAR);
+        let mut restarted = bench.clone();
+        assert_eq!(restarted.car(REQUEST), replies(&[cnf]));
+        assert_eq!(restarted.phase(CAR), Some((Phase::Asked, 400)));
+        assert_eq!(restarted.hear(FIRST.send(OTHER, US)), replies(&[validated(OTHER, 1, 0)]));
+        let mut matched = bench.clone();
+        let reply = Body::MatchCnf { run: RUN, nid: NID, nmk: CONFIG.nmk }.send(US, OTHER);
+        assert_eq!(matched.hear(MATCH.send(OTHER, US)), replies(&[reply]));
+        assert_eq!((matched.0.records().count(), matched.tick(400)), (0, NOTHING));
+        for lost in [Pilot::A, Pilot::E, Pilot::F] {
+            let mut bench = bench.clone();
+            assert_eq!(bench.pilot(lost, 5), NO_LINK);
+            assert_eq!((bench.0.records().count(), bench.tick(400)), (0, NOTHING));
+            assert_eq!((bench.pilot(Pilot::B, 6), bench.phase(CAR)), (NOTHING, None));
+        }
+        assert_eq!((bench.terminate(), bench.0.records().count()), (NO_LINK, 0));
+    }
+}
+
+#[test]
+fn validation_is_one_firing_a_tick() {
+    let mut bench = Bench::ready();
+    assert_eq!((bench.tick(300), bench.hear(second(0).broadcast(CAR))), (NOTHING, NOTHING));
+    assert_eq!((bench.tick(0), bench.tick(99)), (NOTHING, NOTHING));
+    // The excess is dropped: the 10,000 start at the tick.
+    bench.toggle(&[Pilot::C, Pilot::B]);
+    let after = bench.0.reading.wrapping_add(20_000);
+    let seen = bench.call(645, |station, output| station.tick(after, output));
+    assert_eq!(seen, replies(&[validated(CAR, 2, 1)]));
+    assert_eq!(bench.step(CAR), Some((Step::Success, 10_000)));
+    assert_eq!(bench.phase(OTHER), None);
+    // A refused tick ends no window.
+    let mut bench = Bench::counting(0);
+    let before = bench.0.clone();
+    assert_eq!((bench.tick(60_001), &bench.0), (Err(14), &before));
+    assert_eq!(bench.call(644, |station, output| station.tick(700, output)), Err(15));
+    assert_eq!(bench.0, before);
+}
+
+#[test]
+fn validate_messages_are_read_and_written() {
+    let read = |frame: &[u8]| Message::read(frame).map_err(Refusal::number);
+    for timer in 0..=255 {
+        let message = second(timer).broadcast(CAR);
+        let frame = message.to_frame().unwrap();
+        assert_eq!((frame.len(), read(&frame[..22])), (60, Ok(message)));
+        let (single, seen) =
+            (second(timer).send(CAR, US), if timer == 0 { Ok(()) } else { Err(6) });
+        assert_eq!(single.to_frame().map(|_| ()).map_err(Refusal::number), seen);
+        let mut frame = frame.clone();
+        frame[..6].copy_from_slice(&US.0);
+        assert_eq!(read(&frame), seen.map(|()| single));
+        // The address comes before the timer.
+        frame[0] = 1;
+        assert_eq!(read(&frame), Err(5));
+        for result in 0..=6 {
+            let message = validated(CAR, result, timer);
+            let mut frame = validated(CAR, 0, timer).to_frame().unwrap();
+            frame[21] = result;
+            match result {
+                0..=4 => {
+                    assert_eq!((read(&frame), message.to_frame()), (Ok(message), Ok(frame)));
+                }
+                _ => {
+                    assert_eq!((read(&frame), message.to_frame()), (Err(6), Err(Refusal::Octet)));
+                }
+            }
+        }
+    }
+    for message in [FIRST.send(CAR, US), FIRST.broadcast(CAR)] {
+        for (at, octet) in [(19, 1), (21, 0), (21, 2)] {
+            let mut frame = message.to_frame().unwrap();
+            frame[at] = octet;
+            assert_eq!(read(&frame), Err(6));
+        }
+    }
+    let mut output = [0xEE; 60];
+    assert_eq!(second(1).send(CAR, US).write(&mut []), Err(Refusal::Octet));
+    assert_eq!(validated(CAR, 5, 0).write(&mut []), Err(Refusal::Octet));
+    assert_eq!(validated(Address::BROADCAST, 5, 0).write(&mut []), Err(Refusal::AddressKind));
+    assert_eq!(FIRST.send(CAR, US).write(&mut output[..59]), Err(Refusal::Output));
+    assert_eq!(output, [0xEE; 60]);
+    assert_eq!(FIRST.send(CAR, US).car(), Some(CAR));
+    assert_eq!(validated(CAR, 1, 0).car(), None);
+}
+
+#[test]
+fn at_most_one_car_validates() {
+    for seed in 0..30 {
+        let random = random_script(seed, 3_000);
+        let mut script = crate::script::Script::open(&random[..]).unwrap();
+        let (mut station, _) = Station::configure(script.config);
+        while let Some(event) = script.next_event().unwrap() {
+            let _ = event.happen(&mut station);
+            assert!(station.records().filter(|record| record.is_validating()).count() <= 1);
+            assert!(!script.config.exempt || station.records().all(|record| !is_validated(record)));
+        }
+    }
+}
+
+fn is_validated(record: &crate::station::Record) -> bool {
+    matches!(record.phase, Phase::Validating(_))
+}
+
+#[test]
+fn validation_in_words() {
+    let (mut bench, hear) = (Bench::ready(), second(2).broadcast(CAR).to_frame().unwrap());
+    let event = Event::Frame { octets: hear, room: 645 };
+    let answer = crate::script::Answer::from(event.happen(&mut bench.0));
+    let line = show::line(&event, &bench.0, &answer);
+    assert!(line.contains("CM_VALIDATE.REQ second, 2"), "{line}");
+    assert!(line.contains("Validating, toggles: 0, 300 ms"), "{line}");
+    bench.toggle(&[Pilot::C]);
+    let event = Event::Pilot { to: Pilot::B, reading: 0 };
+    let answer = crate::script::Answer::from(event.happen(&mut bench.0));
+    assert!(show::line(&event, &bench.0, &answer).contains("2 held, toggles: 1"));
+    let octets = bench.tick(300).unwrap().0;
+    let words = "CM_VALIDATE.CNF (success, 1 toggles) to 02:00:00:00:00:01";
+    assert_eq!(compare::frames(&octets), words);
+    assert_eq!(compare::frames(&[&octets[..], &[1, 2]].concat()), format!("{words}, 2 octets"));
+    assert_eq!(
+        (compare::frames(&[]), compare::frames(&[9])),
+        ("no frame".into(), "1 octets".into())
+    );
 }

@@ -27,8 +27,8 @@ const TICKS: usize = 1001;
 fn plugged() -> Station {
     let mut nmk = [0; 16];
     nmk[0] = 0x4B;
-    let config =
-        Config { station: US, modem: MODEM, nid: Nid([1, 2, 3, 4, 5, 6, 7]), nmk: Nmk(nmk) };
+    let (nid, nmk) = (Nid([1, 2, 3, 4, 5, 6, 7]), Nmk(nmk));
+    let config = Config { station: US, modem: MODEM, nid, nmk, exempt: false };
     let (mut station, _) = Station::configure(config);
     let _ = station.change_pilot(Pilot::B, 0);
     station
