@@ -55,6 +55,10 @@ fn main() {
     let started = script::start(&head);
     let station = started.station;
     let answer = started.answer;
+    if !started.on {
+        script_io::broken();
+        return;
+    }
     let count = script::event_count(&head);
     io::write_all(STDOUT_FILENO, &answer);
     run(station, count, &mut event, &mut out);

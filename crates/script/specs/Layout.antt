@@ -1,6 +1,6 @@
 -- The layout of the station's script: its head and its events.
 use Prim.Native.Nat.{ℕ}
-use mathlib.Core.Bool.{_&&_}
+use mathlib.Core.Bool.{Bool, _&&_}
 use mathlib.Core.List.{List, [], _∷_}
 use mathlib.Core.Option.{Option, some}
 use lib.Dec.{eqb, ltb}
@@ -34,9 +34,21 @@ nidIn h = record { 0 = lowValue h 12 7 }
 abbrev pub nmkIn : List ℕ → Nmk
 nmkIn h = record { 0 = value h 19 8; 1 = value h 27 8 }
 
+-- the exemption: 1 where validation is not required, and 0 where it is
+abbrev pub exemptionIn : List ℕ → ℕ
+exemptionIn h = lowValue h 35 4
+
+-- whether validation is not required
+abbrev pub exemptIn : List ℕ → Bool
+exemptIn h = eqb (exemptionIn h) 1
+
+-- whether the head keeps to the layout: the exemption is 1 or 0
+abbrev pub isHead : List ℕ → Bool
+isHead h = ltb (exemptionIn h) 2
+
 -- the number of events
 abbrev pub countIn : List ℕ → ℕ
-countIn h = lowValue h 35 4
+countIn h = lowValue h 39 4
 
 -- ---- an event
 

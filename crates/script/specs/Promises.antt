@@ -1,5 +1,6 @@
 -- What starting a station's script and carrying an event out promise.
 use Prim.Native.Nat.{ℕ}
+use mathlib.Core.Path.{_≡_}
 use mathlib.Core.List.{List}
 use mathlib.Core.Option.{Option}
 use Rattle.messages.specs.declared.CarAddress.{CarAddress}
@@ -9,13 +10,14 @@ use Rattle.rules.specs.Rules.{configured, configuring, step, outcome, soundsHea
 use Rattle.rules.specs.Invariant.{Invariant}
 use Rattle.script.specs.declared.Started.{Started}
 use Rattle.script.specs.declared.Happened.{Happened}
-use Rattle.script.specs.Layout.{addressIn, modemIn, nidIn, nmkIn, Event}
+use Rattle.script.specs.Layout.{addressIn, modemIn, nidIn, nmkIn, exemptIn, isHead, Event}
 use Rattle.script.specs.Replies.{number, callReply, queryReply}
 use Rattle.script.specs.Ends.{StartsAs, after, replyTo, CarriedOut}
 
--- the whole promise of starting by the head h
-abbrev pub Starts : List ℕ → Started → Type 0
-Starts h r = StartsAs Invariant (configured (addressIn h) (modemIn h) (nidIn h) (nmkIn h)) (configuring (addressIn h) (modemIn h) (nidIn h)) (r .station) (r .answer)
+-- the whole promise of starting by the head h: the script goes on where the head keeps to the layout
+pub record Starts (h : List ℕ) (r : Started) : Type 0 where
+  pub starts : StartsAs Invariant (configured (addressIn h) (modemIn h) (nidIn h) (nmkIn h) (exemptIn h)) (configuring (addressIn h) (modemIn h) (nidIn h)) (r .station) (r .answer)
+  pub on : r .on ≡ isHead h
 
 -- the reply to an event: a service query's is one number
 abbrev pub reply : Station → Option Event → List ℕ

@@ -19,8 +19,8 @@ ghost use Rattle.script.specs.Events.{lengthIn};
 ghost use Rattle.script.specs.Layout.{countIn, kinds};
 ghost use Rattle.script.specs.Promises.{Starts, Happens};
 
-// How many octets the head takes: two addresses, NID, NMK and the number of events.
-pub const HEAD_OCTETS: usize = 39;
+// How many octets the head takes: two addresses, NID, NMK, the exemption and the number of events.
+pub const HEAD_OCTETS: usize = 43;
 
 // How many octets stand in front of an event's own: kind, reading, room and length.
 pub const EVENT_OCTETS: usize = 16;
@@ -37,10 +37,12 @@ pub const LONGEST_REPLY: usize = REPLY_OCTETS + MOST_OCTETS;
 // A number's four octets.
 pub type NumberOctets = [u8; 4];
 
-// The station that a script starts with, and the octets of configuring's answer.
+// The station that a script starts with, the octets of configuring's answer, and whether the script goes on: a head that breaks
+// the layout has no answer.
 pub struct Started {
     pub station: Station,
     pub answer: NumberOctets,
+    pub on: bool,
 }
 
 // The station after an event, and how many octets the reply takes: none where the event is not carried out.
@@ -60,13 +62,15 @@ pub fn start(head: &[u8]) -> Started
         octets::number_at(head, 19, 8),
         octets::number_at(head, 27, 8),
     );
-    let configured = rules::configure(address, modem, nid, nmk);
+    let exemption = octets::low_number_at(head, 35, 4);
+    let configured = rules::configure(address, modem, nid, nmk, exemption == 1);
     let station = configured.station;
     let answer = configured.answer;
     let octets = numbers::octets_of(replies::refusal_of(answer) as u64);
     Started {
         station: station,
         answer: octets,
+        on: exemption < 2,
     }
 }
 
@@ -74,7 +78,7 @@ pub fn start(head: &[u8]) -> Started
 pub fn event_count(head: &[u8]) -> u64
     ensures { λ r. ⌜ r ≡ countIn (now (head .entry)) ⌝ }
 {
-    octets::low_number_at(head, 35, 4)
+    octets::low_number_at(head, 39, 4)
 }
 
 // How many octets follow an event's first ones.

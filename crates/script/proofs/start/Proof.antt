@@ -1,4 +1,7 @@
 -- The head's numbers; then configuring.
+use Prim.Native.Nat.{ℕ}
+use mathlib.Core.Path.{ap}
+use lib.Dec.{ltb}
 use Rattle.script.proofs.EventLaws.{started}
 use borrow.Author.Needs.{needs}
 use Rattle.script.proofs.start.Statement.{statement}
@@ -19,6 +22,9 @@ number-at-requires-3 c κs = search needs
 number-at-requires-4 : tie.Need-number-at-requires-4
 number-at-requires-4 c κs = search needs
 
+low-number-at-requires-2 : tie.Need-low-number-at-requires-2
+low-number-at-requires-2 c κs = search needs
+
 configure-requires : tie.Need-configure-requires
 configure-requires c κs = search needs
 
@@ -34,8 +40,12 @@ octets-of-requires c κs = search needs
 returns : tie.Need-returns
 returns c =
     let g = c .before .before .before .configure .ensures in
-    rw (← c .before .before .before .before .before .before .before .before .number-at .ensures, ← c .before .before .before .before .before .before .before .number-at2 .ensures, ← c .before .before .before .before .before .before .low-number-at .ensures, ← c .before .before .before .before .before .number-at3 .ensures, ← c .before .before .before .before .number-at4 .ensures)
-    (started (g .station) (g .answer) (g .kept) (c .before .refusal-of .ensures) (c .octets-of .ensures))
+    record {
+      starts =
+          rw (← c .before .before .before .before .before .before .before .before .before .number-at .ensures, ← c .before .before .before .before .before .before .before .before .number-at2 .ensures, ← c .before .before .before .before .before .before .before .low-number-at .ensures, ← c .before .before .before .before .before .before .number-at3 .ensures, ← c .before .before .before .before .before .number-at4 .ensures, ← c .before .before .before .before .low-number-at2 .ensures)
+          (started (g .station) (g .answer) (g .kept) (c .before .refusal-of .ensures) (c .octets-of .ensures));
+      on = ap (λ (n : ℕ). ltb n 2) (c .before .before .before .before .low-number-at2 .ensures);
+    }
 
 pub start-spec : {M : Type 1} → statement M
 start-spec =
@@ -46,6 +56,7 @@ start-spec =
     low-number-at-requires
     number-at-requires-3
     number-at-requires-4
+    low-number-at-requires-2
     configure-requires
     refusal-of-requires
     cast-octets-of
