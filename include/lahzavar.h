@@ -21,6 +21,9 @@
 
 #include <stddef.h>
 #include <stdint.h>
+#ifndef __cplusplus
+#include <stdbool.h>
+#endif
 
 #ifdef __cplusplus
 extern "C" {
@@ -28,8 +31,8 @@ extern "C" {
 
 /* The version of this header. */
 #define LAHZAVAR_MAJOR 0
-#define LAHZAVAR_MINOR 3
-#define LAHZAVAR_PATCH 1
+#define LAHZAVAR_MINOR 4
+#define LAHZAVAR_PATCH 0
 /* The same as one number, which lahzavar_version() gives of the library. */
 #define LAHZAVAR_VERSION (65536u * LAHZAVAR_MAJOR + 256u * LAHZAVAR_MINOR + LAHZAVAR_PATCH)
 
@@ -39,10 +42,12 @@ extern "C" {
 #define LAHZAVAR_GROUPS 58
 /* The octets of one report, CM_ATTEN_CHAR.IND. */
 #define LAHZAVAR_REPORT_OCTETS (71 + LAHZAVAR_GROUPS)
+/* The octets of one confirmation of a validation, CM_VALIDATE.CNF. */
+#define LAHZAVAR_CONFIRMATION_OCTETS 60
 /* The least room that the frame and tick calls ask for: a report to every car. */
 #define LAHZAVAR_LEAST_OUTPUT (LAHZAVAR_REPORT_OCTETS * LAHZAVAR_RECORDS)
 /* The sizes of a station's two arrays. */
-#define LAHZAVAR_WORDS (12 + 8 * LAHZAVAR_RECORDS)
+#define LAHZAVAR_WORDS (13 + 8 * LAHZAVAR_RECORDS)
 #define LAHZAVAR_SUMS (LAHZAVAR_GROUPS * LAHZAVAR_RECORDS)
 
 /* The most stations whose reports a car keeps. */
@@ -57,7 +62,7 @@ enum lahzavar_refusal {
     LAHZAVAR_ACCEPTED = 0,
     LAHZAVAR_TOO_SHORT = 1,          /* the frame ends before its payload does */
     LAHZAVAR_BAD_HEAD = 2,           /* no SLAC frame: octets 12-14 or 17-18 */
-    LAHZAVAR_UNKNOWN_TYPE = 3,       /* none of the nine messages */
+    LAHZAVAR_UNKNOWN_TYPE = 3,       /* none of the eleven messages */
     LAHZAVAR_TOO_LONG = 4,           /* longer than its message is written */
     LAHZAVAR_BAD_ADDRESS = 5,        /* source, destination or the profile's car of the wrong kind */
     LAHZAVAR_BAD_OCTET = 6,          /* another octet that is fixed, equal to one before, or limited */
@@ -186,7 +191,7 @@ struct lahzavar_car {
 struct lahzavar_answer {
     uint32_t refusal;    /* enum lahzavar_refusal; where it is not 0, the rest is 0 */
     uint32_t indication; /* enum lahzavar_indication */
-    uint32_t frames;     /* frames to send, back to back from the output's first octet */
+    uint32_t frames;     /* frames to send, back to back from the output's first octet: lahzavar_frame_octets() */
     uint32_t octets;     /* what they take together */
 };
 
@@ -238,10 +243,11 @@ LAHZAVAR_CHECK(LAHZAVAR_ALIGNMENT(struct lahzavar_station) >= LAHZAVAR_ALIGNMENT
 
 /*
  * What the library exports. Use the functions below instead, which take a struct lahzavar_station or lahzavar_car and allow
- * NULL for no octets; a pointer passed here is never NULL.
+ * NULL for no octets; a pointer passed here is never NULL. `exempt` is 0 where validation is required, and any other number
+ * where it is not.
  */
 struct lahzavar_answer lahzavar_configure(uint64_t *words, uint16_t *sums, uint64_t address, uint64_t modem, uint64_t nid,
-                                          uint64_t nmk_first, uint64_t nmk_last);
+                                          uint64_t nmk_first, uint64_t nmk_last, uint32_t exempt);
 struct lahzavar_answer lahzavar_frame(uint64_t *words, uint16_t *sums, const uint8_t *octets, size_t length, uint8_t *out,
                                       size_t room);
 struct lahzavar_answer lahzavar_tick(uint64_t *words, uint16_t *sums, uint32_t reading, uint8_t *out, size_t room);
@@ -327,16 +333,21 @@ static inline void lahzavar_station_wipe(struct lahzavar_station *station)
  * Configures a station: Unmatched, no records, pilot state A, clock reading 0. Refused with LAHZAVAR_BAD_CONFIGURATION
  * unless both addresses are unicast and differ, the NID is below 2^54 and there is an NMK; the station then answers that
  * to everything. ISO 15118-3 wants a fresh NMK for each plug-in, so configure anew before each.
+ *
+ * A car that doubts which station it hangs on may ask for a validation: it switches the pilot between B and C, and the
+ * station tells it how often it saw that. Usually validation_not_required is false. True is for a place where no car can be
+ * at the wrong bay: the station then answers "not required" to every such request, and never counts.
  */
 static inline struct lahzavar_answer lahzavar_station_configure(struct lahzavar_station *station, uint64_t address,
-                                                                uint64_t modem, uint64_t nid, const uint8_t nmk[16])
+                                                                uint64_t modem, uint64_t nid, const uint8_t nmk[16],
+                                                                bool validation_not_required)
 {
     if (station == NULL || nmk == NULL) {
         lahzavar_station_wipe(station);
         return lahzavar_no_station();
     }
     return lahzavar_configure(station->private_words, station->private_sums, address, modem, nid, lahzavar_number(nmk, 8),
-                              lahzavar_number(nmk + 8, 8));
+                              lahzavar_number(nmk + 8, 8), validation_not_required ? 1 : 0);
 }
 
 /* A frame from the modem, from its destination address on and without its check sequence; NULL stands for no octets. */
@@ -352,7 +363,11 @@ static inline struct lahzavar_answer lahzavar_station_frame(struct lahzavar_stat
                           octets != NULL ? length : 0, out != NULL ? out : &no_room, out != NULL ? room : 0);
 }
 
-/* A reading of a free-running millisecond clock that wraps at 2^32; every 10 ms is often enough. */
+/*
+ * A reading of a free-running millisecond clock that wraps at 2^32: every 10 ms is often enough, and at least every 100 ms
+ * while a car validates. Send every frame of the answer: reports, of LAHZAVAR_REPORT_OCTETS each, and behind them what a
+ * validation has come to, a CM_VALIDATE.CNF of LAHZAVAR_CONFIRMATION_OCTETS.
+ */
 static inline struct lahzavar_answer lahzavar_station_tick(struct lahzavar_station *station, uint32_t reading, uint8_t *out,
                                                            size_t room)
 {
@@ -364,7 +379,11 @@ static inline struct lahzavar_answer lahzavar_station_tick(struct lahzavar_stati
                          out != NULL ? room : 0);
 }
 
-/* The control pilot's state, at each change, with the clock's reading. */
+/*
+ * The control pilot's state with the clock's reading: at each change, also among B, C and D, at once and in the order of
+ * what else happens. While a car validates, the changes from B to C and back are counted that come before the tick which
+ * ends its time; the pilot has to be at B then.
+ */
 static inline struct lahzavar_answer lahzavar_station_pilot(struct lahzavar_station *station,
                                                             enum lahzavar_pilot_state pilot, uint32_t reading)
 {
@@ -405,10 +424,23 @@ static inline uint32_t lahzavar_station_records_held(const struct lahzavar_stati
     return station == NULL ? 0 : lahzavar_records_held(station->private_words);
 }
 
-/* The octets of each frame that an answer reports, all of one length; 0 where it reports none. */
-static inline size_t lahzavar_frame_octets(struct lahzavar_answer answer)
+/*
+ * The octets of the first one of an answer's frames, which stand back to back in so many octets: at least one and never
+ * more than these, and 0 where there are none. So a driver steps through what it has to send:
+ *
+ *     for (at = 0; at < answer.octets; at += length) {
+ *         length = lahzavar_frame_octets(out + at, answer.octets - at);
+ *         modem_send(out + at, length);
+ *     }
+ *
+ * The frame's type tells its length: reports and CM_VALIDATE.CNF may stand in one answer, any other frame is alone in its.
+ */
+static inline size_t lahzavar_frame_octets(const uint8_t *frames, size_t octets)
 {
-    return answer.frames == 0 ? 0 : answer.octets / answer.frames;
+    size_t there = frames != NULL ? octets : 0;
+    unsigned type = there < 17 ? 0u : (unsigned)frames[15] | (unsigned)frames[16] << 8;
+    size_t length = type == 0x606E ? LAHZAVAR_REPORT_OCTETS : type == 0x6079 ? LAHZAVAR_CONFIRMATION_OCTETS : there;
+    return length < there ? length : there;
 }
 
 /* Wipes a car, its key too: it answers LAHZAVAR_BAD_CONFIGURATION to everything until it is configured again. */

@@ -19,6 +19,8 @@ enum message_type {
     CM_ATTEN_CHAR_IND = 0x606E,
     CM_ATTEN_CHAR_RSP = 0x606F,
     CM_MNBC_SOUND_IND = 0x6076,
+    CM_VALIDATE_REQ = 0x6078,
+    CM_VALIDATE_CNF = 0x6079,
     CM_SLAC_MATCH_REQ = 0x607C,
     CM_SLAC_MATCH_CNF = 0x607D,
     CM_ATTEN_PROFILE_IND = 0x6086
@@ -95,6 +97,18 @@ static inline size_t write_rsp(uint8_t *frame, const struct car *car, const uint
     size_t length = write_head(frame, station, car->address, CM_ATTEN_CHAR_RSP, 51);
     memcpy(frame + FRAME_HEAD + 2, car->address, 6);
     memcpy(frame + FRAME_HEAD + 8, car->run, 8);
+    return length;
+}
+
+/*
+ * The first request of a validation, to its station, with the timer 0, or the second one, to broadcast_address: the station
+ * then counts for 100 ms times the timer and one more.
+ */
+static inline size_t write_validate_req(uint8_t *frame, const struct car *car, const uint8_t *to, unsigned timer)
+{
+    size_t length = write_head(frame, to, car->address, CM_VALIDATE_REQ, 3);
+    frame[FRAME_HEAD + 1] = (uint8_t)timer;
+    frame[FRAME_HEAD + 2] = 1;
     return length;
 }
 

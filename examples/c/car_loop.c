@@ -191,7 +191,7 @@ static size_t board_receive(uint8_t frame[FRAME_MOST])
 static void station_sends(struct lahzavar_answer answer, const uint8_t *out)
 {
     if (answer.frames != 0 && put - taken < WAITING) {
-        lengths[put % WAITING] = lahzavar_frame_octets(answer);
+        lengths[put % WAITING] = lahzavar_frame_octets(out, answer.octets);
         memcpy(waiting[put % WAITING], out, lengths[put % WAITING]);
         put++;
     }
@@ -243,7 +243,7 @@ int main(void)
         return 1;
     }
     (void)lahzavar_station_configure(&station, lahzavar_address(station_address), lahzavar_address(station_modem),
-                                     lahzavar_nid(network_id), network_key);
+                                     lahzavar_nid(network_id), network_key, false);
     (void)lahzavar_station_pilot(&station, LAHZAVAR_PILOT_A, now);
     if (lahzavar_car_configure(&car, lahzavar_address(our_address), REFERENCE).refusal != LAHZAVAR_ACCEPTED) {
         return 1;

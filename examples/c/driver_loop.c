@@ -11,6 +11,7 @@
 
 #define QUEUE 32u /* a power of two, so that the counts may wrap */
 #define REFUSALS (LAHZAVAR_LAST_REFUSAL + 2)
+#define VALIDATION_NOT_REQUIRED false /* true where no car can be at the wrong bay, as at an outlet that stands alone */
 
 _Static_assert(ATOMIC_INT_LOCK_FREE == 2, "an interrupt can't wait for a lock");
 
@@ -119,13 +120,13 @@ static void count_refusal(uint32_t refusal)
     }
 }
 
-/* Puts each frame of the answer into the send queue, keeps the indication, and counts a refusal. */
+/* Puts each frame of the answer into the send queue, at its own length, keeps the indication, and counts a refusal. */
 static void obey(struct lahzavar_answer answer)
 {
-    size_t each = lahzavar_frame_octets(answer);
-    uint32_t frame;
-    for (frame = 0; frame < answer.frames; frame++) {
-        put_frame(&to_send, output + frame * each, each);
+    size_t at, length;
+    for (at = 0; at < answer.octets; at += length) {
+        length = lahzavar_frame_octets(output + at, answer.octets - at);
+        put_frame(&to_send, output + at, length);
     }
     if (answer.indication != LAHZAVAR_NO_INDICATION) {
         last_indication = answer.indication;
@@ -165,7 +166,7 @@ static void handle(const struct event *event)
     case EVENT_CLOCK:
         handle_clock(event->reading);
         break;
-    case EVENT_PILOT:
+    case EVENT_PILOT: /* every change, also among B, C and D: a car may validate by them */
         pilot_now = event->pilot;
         obey(lahzavar_station_pilot(&station, event->pilot, event->reading));
         break;
@@ -188,8 +189,9 @@ static void handle_received(void)
 /* Configures the station, and tells it the pilot's state at once: so it takes the clock's reading, whatever that is. */
 static struct lahzavar_answer start(uint32_t reading)
 {
-    struct lahzavar_answer answer = lahzavar_station_configure(
-        &station, lahzavar_address(our_address), lahzavar_address(our_modem), lahzavar_nid(network_id), network_key);
+    struct lahzavar_answer answer =
+        lahzavar_station_configure(&station, lahzavar_address(our_address), lahzavar_address(our_modem),
+                                   lahzavar_nid(network_id), network_key, VALIDATION_NOT_REQUIRED);
     obey(answer);
     obey(lahzavar_station_pilot(&station, pilot_now, reading));
     return answer;

@@ -56,7 +56,7 @@ static void sent(struct lahzavar_answer answer, size_t length)
     same("refusal", answer.refusal, LAHZAVAR_ACCEPTED);
     same("frames", answer.frames, 1);
     same("octets", answer.octets, length);
-    same("octets of each frame", lahzavar_frame_octets(answer), length);
+    same("octets of its frame", lahzavar_frame_octets(out, answer.octets), length);
     same("the frame", (size_t)memcmp(out, frame, length), 0);
     all_octets("an octet behind the frame", out + length, sizeof out - length, 0xEE);
     memset(out, 0xEE, sizeof out);
@@ -248,6 +248,9 @@ static void only_for_stations(void)
     same("a start", hear(write_start(frame, &other)).refusal, LAHZAVAR_ONLY_FOR_STATIONS);
     same("a sound", hear(write_sound(frame, &other, 9)).refusal, LAHZAVAR_ONLY_FOR_STATIONS);
     same("a response", hear(write_rsp(frame, &other, to)).refusal, LAHZAVAR_ONLY_FOR_STATIONS);
+    same("a validate request", hear(write_validate_req(frame, &other, to, 0)).refusal, LAHZAVAR_ONLY_FOR_STATIONS);
+    same("the second one", hear(write_validate_req(frame, &other, broadcast_address, 9)).refusal,
+         LAHZAVAR_ONLY_FOR_STATIONS);
     same("a match request", hear(write_match_req(frame, &other, to)).refusal, LAHZAVAR_ONLY_FOR_STATIONS);
     same("a profile", hear(write_profile(frame, modem, to, us.address, 0)).refusal, LAHZAVAR_ONLY_FOR_STATIONS);
 }
@@ -261,6 +264,7 @@ static void refusals_of_matching(void)
     same("start", start().refusal, LAHZAVAR_WRONG_STATE);
     same("link up", lahzavar_car_link_up(&car).refusal, LAHZAVAR_WRONG_STATE);
     same("match", hear(write_match_cnf(frame, &us, station(1), nid, nmk)).refusal, LAHZAVAR_WRONG_STATE);
+    same("validation", hear(write_validate_cnf(frame, &us, station(1), 1, 2)).refusal, LAHZAVAR_WRONG_STATE);
     no_key(&car, LAHZAVAR_WRONG_STATE);
     same("another run", hear(write_report(frame, &another_run, station(1), 10, 0)).refusal, LAHZAVAR_NO_RECORD);
     same("no sounds", hear(write_report(frame, &us, station(1), 0, 0)).refusal, LAHZAVAR_NO_SOUNDS);

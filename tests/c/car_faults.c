@@ -8,7 +8,7 @@
 
 #define STAGES 9
 #define PLACES (LAHZAVAR_STATIONS + 1)
-#define FRAMES 6
+#define FRAMES 8
 #define KINDS (FRAMES + 5)
 
 static struct lahzavar_car stages[STAGES];
@@ -66,7 +66,7 @@ static void lend_changed(void)
     }
 }
 
-/* A frame of each message that a car takes, two that it does not, and random octets. */
+/* A frame of each message that a car takes, some that it does not, and random octets. */
 static size_t write_frame(uint8_t *frame, size_t which, const uint8_t *station)
 {
     switch (which) {
@@ -80,6 +80,10 @@ static size_t write_frame(uint8_t *frame, size_t which, const uint8_t *station)
         return write_parm_req(frame, &us);
     case 4:
         return write_profile(frame, station, stations[0], us.address, (unsigned)below(256));
+    case 5:
+        return write_validate_req(frame, &us, station, 0);
+    case 6:
+        return write_validate_cnf(frame, &us, station, (unsigned)below(256), (unsigned)below(5));
     default:
         return write_random(frame);
     }
@@ -146,7 +150,7 @@ static void call_configure(void)
     check_configured(lahzavar_configure_car(lent_words(), changed(0, some_address()), (uint32_t)changed(1, 255)));
 }
 
-/* One call of a kind: frames 0 to 5, tick, start, terminate, link up, readers. */
+/* One call of a kind: frames 0 to 7, tick, start, terminate, link up, readers. */
 static void call(size_t kind)
 {
     static void (*const others[])(void) = {call_tick, call_start, call_terminate, call_link_up, call_readers};

@@ -2,6 +2,10 @@
  * The car on a raw Ethernet socket, so that any other implementation of a station can be tried on a veth pair. See usage()
  * for the options.
  *
+ * The library's car does not validate. With an option this program does it in its place: it keeps the car's match request
+ * back, writes the validate requests itself, and lets the car's clock stand until the station has confirmed; the car then
+ * sends its request again. The control pilot is changed by whoever runs the station.
+ *
  * There is no modem: a key that was given counts as a link after a given time. A station under test may lack its modem too.
  * Options have this program stand in for it: it then sends the station one CM_ATTEN_PROFILE.IND for each M-SOUND, with one
  * value in every group, and answers its CM_SET_KEY.REQ.
@@ -15,12 +19,22 @@
 #define TICK 2u /* ms; a car asks for 5 or less, and a turn may come late */
 #define PAUSE 1000u
 #define NONE 256ul
+#define PATIENCE 500u /* ms, from when a CM_VALIDATE.CNF is due */
 #define NEAR 5ul /* dB, found with any reference */
+
+/* A validation: the station has not confirmed the first request, or counts. */
+enum validation { NO_VALIDATION, ASKED, COUNTING };
+
+/* The results of CM_VALIDATE.CNF that a validation goes on with. */
+enum result { READY = 1, SUCCESS = 2, NOT_REQUIRED = 4 };
 
 static struct lahzavar_car car;
 static uint8_t us[6];
 static uint8_t modem[6] = {2, 0, 0, 0, 0, 0xBB};
-static unsigned long reference = 0, link_after = 1000, attenuation = NONE, key_result = NONE;
+static unsigned long reference = 0, link_after = 1000, attenuation = NONE, key_result = NONE, window = NONE;
+static enum validation validation;
+static uint8_t chosen[6];         /* the station that validates */
+static uint32_t confirmation_due; /* when it has to have answered */
 static int once = 0, address_given = 0, cut_reports = 0;
 static uint8_t output[LAHZAVAR_CAR_LEAST_OUTPUT];
 static uint8_t confirmed_by[6]; /* the station that sent the last CM_SLAC_PARM.CNF */
@@ -33,6 +47,7 @@ static void usage(void)
                     "  --address ADDRESS   the car's address (the interface's)\n"
                     "  --reference N       the attenuation that the car takes as its zero, in dB (0)\n"
                     "  --link-after MS     link up so long after the key was given (1000)\n"
+                    "  --validate N        before the match, ask for a validation of N + 1 times 100 ms\n"
                     "  --once              end with link established (0), no link (1) or not found (1)\n"
                     "In place of the station's modem, where it has none:\n"
                     "  --modem ADDRESS     its address (02:00:00:00:00:BB)\n"
@@ -100,11 +115,29 @@ static void indicate(uint32_t indication)
     }
 }
 
-/* Says the indication, and sends the answer's frame. */
+/* Sends a validate request, the first to the station that was chosen and the second to all. */
+static void send_validate_req(enum validation next)
+{
+    uint8_t frame[FRAME_MOST];
+    struct car as = {{0}, {0}};
+    int first = next == ASKED;
+    memcpy(as.address, us, 6);
+    line_send(frame, write_validate_req(frame, &as, first ? chosen : broadcast_address, first ? 0 : (unsigned)window));
+    validation = next;
+    confirmation_due = line_clock() + PATIENCE + (first ? 0 : 100u * ((uint32_t)window + 1u));
+}
+
+/* Says the indication, and sends the answer's frame, or where the car has chosen a validate request in its place. */
 static void obey(struct lahzavar_answer answer)
 {
+    int choice = answer.indication == LAHZAVAR_FOUND || answer.indication == LAHZAVAR_POTENTIALLY_FOUND;
     if (answer.indication != LAHZAVAR_NO_INDICATION) {
         indicate(answer.indication);
+    }
+    if (choice && window != NONE) {
+        memcpy(chosen, output, 6);
+        send_validate_req(ASKED);
+        return;
     }
     if (answer.frames != 0) {
         line_send(output, answer.octets);
@@ -126,10 +159,45 @@ static void log_report(const uint8_t *frame)
     printf(": %u sounds, total %u\n", frame[FRAME_HEAD + 50], total);
 }
 
+/* Ends a validation; where it has failed, the matching too. */
+static void end_validation(const char *why)
+{
+    validation = NO_VALIDATION;
+    if (why != NULL) {
+        log_line(why);
+        obey(lahzavar_car_terminate(&car));
+    }
+}
+
+/* What the station says of the validation. Any number of toggles will do: the pilot is not ours. */
+static void take_confirmation(const uint8_t *frame, size_t length)
+{
+    unsigned result = frame[FRAME_HEAD + 2];
+    log_received(frame, length);
+    printf("\n");
+    log_validation(frame);
+    if (validation == ASKED && result == READY) {
+        send_validate_req(COUNTING);
+    } else {
+        int done = result == (validation == ASKED ? NOT_REQUIRED : SUCCESS);
+        end_validation(done ? NULL : "the validation has failed");
+    }
+}
+
+static int is_confirmation(const uint8_t *frame, size_t length)
+{
+    return validation != NO_VALIDATION && frame_type(frame, length) == CM_VALIDATE_CNF && length >= FRAME_HEAD + 3 &&
+           memcmp(frame, us, 6) == 0 && memcmp(frame + 6, chosen, 6) == 0;
+}
+
 static void receive(const uint8_t *frame, size_t length)
 {
     struct lahzavar_answer answer;
     unsigned type = frame_type(frame, length);
+    if (is_confirmation(frame, length)) {
+        take_confirmation(frame, length);
+        return;
+    }
     if (type == CM_SET_KEY_REQ && key_result != NONE) {
         (void)confirm_key(frame, length, modem, (unsigned)key_result);
         return;
@@ -173,7 +241,7 @@ static void start(void)
     obey(lahzavar_car_start(&car, fresh, fresh + 8, line_clock(), output, sizeof output));
 }
 
-static void tick(void)
+static void tick_car(void)
 {
     struct lahzavar_answer answer = lahzavar_car_tick(&car, line_clock(), output, sizeof output);
     uint32_t state = lahzavar_car_state(&car);
@@ -187,6 +255,16 @@ static void tick(void)
     }
     if (ended && line_clock() - ended_at >= PAUSE) {
         start();
+    }
+}
+
+/* The car's clock stands while the station validates. */
+static void tick(void)
+{
+    if (validation == NO_VALIDATION) {
+        tick_car();
+    } else if ((int32_t)(line_clock() - confirmation_due) >= 0) {
+        end_validation("the station does not confirm the validation");
     }
 }
 
@@ -228,6 +306,9 @@ static void read_option(int option)
     case 'r':
         key_result = strtoul(optarg, NULL, 10) & 0xFF;
         break;
+    case 'v':
+        window = strtoul(optarg, NULL, 10) & 0xFF;
+        break;
     case 'e':
         read_for_evse();
         break;
@@ -243,8 +324,8 @@ static const struct option long_options[] = {
     {"address", required_argument, NULL, 'a'},     {"reference", required_argument, NULL, 'f'},
     {"link-after", required_argument, NULL, 'l'},  {"modem", required_argument, NULL, 'm'},
     {"attenuation", required_argument, NULL, 'n'}, {"key-result", required_argument, NULL, 'r'},
-    {"for-evse", no_argument, NULL, 'e'},          {"once", no_argument, NULL, 'o'},
-    {NULL, 0, NULL, 0}};
+    {"for-evse", no_argument, NULL, 'e'},          {"validate", required_argument, NULL, 'v'},
+    {"once", no_argument, NULL, 'o'},              {NULL, 0, NULL, 0}};
 
 int main(int count, char **arguments)
 {

@@ -34,17 +34,27 @@ static struct lahzavar_answer tick(uint32_t reading)
     return lahzavar_station_tick(&station, reading, out, LAHZAVAR_LEAST_OUTPUT);
 }
 
+static void pilot(enum lahzavar_pilot_state now)
+{
+    same("a pilot", lahzavar_station_pilot(&station, now, 0).refusal, LAHZAVAR_ACCEPTED);
+}
+
+static void configure_as(bool validation_not_required)
+{
+    struct lahzavar_answer answer = lahzavar_station_configure(&station, lahzavar_address(us), lahzavar_address(modem),
+                                                               lahzavar_nid(nid), nmk, validation_not_required);
+    same("configuring", answer.refusal, LAHZAVAR_ACCEPTED);
+}
+
 static void configure(void)
 {
-    struct lahzavar_answer answer =
-        lahzavar_station_configure(&station, lahzavar_address(us), lahzavar_address(modem), lahzavar_nid(nid), nmk);
-    same("configuring", answer.refusal, LAHZAVAR_ACCEPTED);
+    configure_as(false);
 }
 
 static void plug_in(void)
 {
     configure();
-    same("plug-in", lahzavar_station_pilot(&station, LAHZAVAR_PILOT_B, 0).refusal, LAHZAVAR_ACCEPTED);
+    pilot(LAHZAVAR_PILOT_B);
 }
 
 static void sizes(void)
@@ -80,7 +90,7 @@ static void first_case(void)
     answer = hear(write_parm_req(frame, &first));
     same("frames of P2", answer.frames, 1);
     same("octets of P2", answer.octets, 60);
-    same("octets of each frame", lahzavar_frame_octets(answer), 60);
+    same("octets of its frame", lahzavar_frame_octets(out, answer.octets), 60);
     same("P2", (size_t)memcmp(out, reply, sizeof reply), 0);
     same("octet behind P2", out[60], 0xEE);
     same("records held", lahzavar_station_records_held(&station), 1);
@@ -107,6 +117,7 @@ static void refusals_of_reading(void)
     same("only for cars", hear(write_parm_cnf(frame, &first, us)).refusal, LAHZAVAR_ONLY_FOR_CARS);
     same("only for cars", hear(write_report(frame, &first, us, 10, 0)).refusal, LAHZAVAR_ONLY_FOR_CARS);
     same("only for cars", hear(write_match_cnf(frame, &first, us, nid, nmk)).refusal, LAHZAVAR_ONLY_FOR_CARS);
+    same("only for cars", hear(write_validate_cnf(frame, &first, us, 1, 2)).refusal, LAHZAVAR_ONLY_FOR_CARS);
     same("not for us", hear(write_rsp(frame, &first, modem)).refusal, LAHZAVAR_NOT_FOR_US);
 }
 
@@ -175,7 +186,7 @@ static void configure_badly(uint64_t address, uint64_t other, uint64_t network, 
 {
     struct lahzavar_answer answer;
     plug_in();
-    answer = lahzavar_station_configure(&station, address, other, network, key);
+    answer = lahzavar_station_configure(&station, address, other, network, key, false);
     same("bad configuration", answer.refusal, LAHZAVAR_BAD_CONFIGURATION);
     same("its indication, frames and octets", answer.indication | answer.frames | answer.octets, 0);
     answers_nothing(&station);
@@ -196,9 +207,10 @@ static void bad_configurations(void)
 static void no_station(void)
 {
     struct lahzavar_answer answer =
-        lahzavar_station_configure(NULL, lahzavar_address(us), lahzavar_address(modem), lahzavar_nid(nid), nmk);
+        lahzavar_station_configure(NULL, lahzavar_address(us), lahzavar_address(modem), lahzavar_nid(nid), nmk, false);
     same("configuring no station", answer.refusal, LAHZAVAR_BAD_CONFIGURATION);
-    same("the same without an NMK", lahzavar_station_configure(NULL, 1, 2, 3, NULL).refusal, LAHZAVAR_BAD_CONFIGURATION);
+    answer = lahzavar_station_configure(NULL, 1, 2, 3, NULL, true);
+    same("the same without an NMK", answer.refusal, LAHZAVAR_BAD_CONFIGURATION);
     lahzavar_station_wipe(NULL);
     answers_nothing(NULL);
 }
@@ -250,18 +262,149 @@ static void sentences(void)
     }
 }
 
-static void states_and_indications(void)
+/* A car's matching until its report. */
+static void reported(const struct car *car)
 {
     unsigned left;
+    (void)hear(write_parm_req(frame, car));
+    (void)hear(write_start(frame, car));
+    for (left = 10; left > 1; left--) {
+        same("profile", hear(write_profile(frame, modem, us, car->address, left)).frames, 0);
+    }
+    same("report", hear(write_profile(frame, modem, us, car->address, 1)).octets, LAHZAVAR_REPORT_OCTETS);
+}
+
+/* And until the station awaits its match request, or a first validate request. */
+static void awaited(const struct car *car)
+{
+    reported(car);
+    same("response", hear(write_rsp(frame, car, us)).refusal, LAHZAVAR_ACCEPTED);
+}
+
+/* The answer is one CM_VALIDATE.CNF, and no octet behind it was written. */
+static void confirmed(struct lahzavar_answer answer, const struct car *car, unsigned toggles, unsigned result)
+{
+    size_t length = write_validate_cnf(frame, car, us, toggles, result);
+    same("the frames of a confirmation", answer.frames, 1);
+    same("its octets", answer.octets, LAHZAVAR_CONFIRMATION_OCTETS);
+    same("its indication", answer.indication, LAHZAVAR_NO_INDICATION);
+    same("the confirmation", (size_t)memcmp(out, frame, length), 0);
+    all_octets("an octet behind the confirmation", out + length, sizeof out - length, 0xEE);
+}
+
+/* The answer to a first validate request, which goes to the station alone. */
+static void asked_to_validate(const struct car *car, unsigned result)
+{
+    memset(out, 0xEE, sizeof out);
+    confirmed(hear(write_validate_req(frame, car, us, 0)), car, 0, result);
+}
+
+/* A second validate request, which goes to all. */
+static uint32_t second_request(const struct car *car, unsigned timer)
+{
+    return hear(write_validate_req(frame, car, broadcast_address, timer)).refusal;
+}
+
+/* Two toggles within a second, while another car is told that the station is busy. */
+static void validation(void)
+{
+    struct car second = car_at(2);
+    unsigned toggle;
+    plug_in();
+    awaited(&first);
+    awaited(&second);
+    same("a second request too early", second_request(&first, 9), LAHZAVAR_WRONG_PHASE);
+    asked_to_validate(&first, 1);
+    asked_to_validate(&second, 3);
+    same("the first one again", hear(write_validate_req(frame, &first, us, 0)).refusal, LAHZAVAR_WRONG_PHASE);
+    same("a second request", second_request(&first, 9), LAHZAVAR_ACCEPTED);
+    for (toggle = 0; toggle < 2; toggle++) {
+        pilot(LAHZAVAR_PILOT_C);
+        pilot(LAHZAVAR_PILOT_B);
+    }
+    same("match while counting", hear(write_match_req(frame, &first, us)).refusal, LAHZAVAR_WRONG_PHASE);
+    same("the window", tick(999).frames, 0);
+    memset(out, 0xEE, sizeof out);
+    confirmed(tick(1000), &first, 2, 2);
+    same("match", hear(write_match_req(frame, &first, us)).frames, 1);
+    same("joining", lahzavar_station_state(&station), LAHZAVAR_JOINING);
+}
+
+/* The pilot at C when the window ends; no second request; a station that requires none. */
+static void other_validations(void)
+{
+    plug_in();
+    awaited(&first);
+    asked_to_validate(&first, 1);
+    same("a second request", second_request(&first, 0), LAHZAVAR_ACCEPTED);
+    pilot(LAHZAVAR_PILOT_C);
+    memset(out, 0xEE, sizeof out);
+    confirmed(tick(100), &first, 0, 3);
+    same("records left", lahzavar_station_records_held(&station), 0);
+    plug_in();
+    awaited(&first);
+    asked_to_validate(&first, 1);
+    same("ready", tick(399).refusal, LAHZAVAR_ACCEPTED);
+    same("still ready", lahzavar_station_records_held(&station), 1);
+    same("ready no longer", tick(400).frames, 0);
+    same("records left", lahzavar_station_records_held(&station), 0);
+    configure_as(true);
+    pilot(LAHZAVAR_PILOT_B);
+    awaited(&first);
+    asked_to_validate(&first, 4);
+    same("a second request all the same", second_request(&first, 9), LAHZAVAR_WRONG_PHASE);
+    same("match", hear(write_match_req(frame, &first, us)).frames, 1);
+}
+
+/* The library's own call takes every number but 0 for "not required". */
+static void exemptions(void)
+{
+    static const uint32_t numbers[] = {0, 1, 2, 256, 0x80000000u, UINT32_MAX};
+    size_t at;
+    for (at = 0; at < sizeof numbers / sizeof *numbers; at++) {
+        struct lahzavar_answer answer = lahzavar_configure(station.private_words, station.private_sums, lahzavar_address(us),
+                                                           lahzavar_address(modem), lahzavar_nid(nid), 1, 2, numbers[at]);
+        same("configuring", answer.refusal, LAHZAVAR_ACCEPTED);
+        pilot(LAHZAVAR_PILOT_B);
+        awaited(&first);
+        asked_to_validate(&first, numbers[at] == 0 ? 1 : 4);
+    }
+}
+
+/* The frames of one tick: reports, and behind them a confirmation, each at its own length. */
+static void frames_of_a_tick(void)
+{
+    struct car second = car_at(2), third = car_at(3);
+    struct lahzavar_answer answer;
+    size_t at, length, frames = 0;
+    plug_in();
+    awaited(&first);
+    reported(&second);
+    reported(&third);
+    asked_to_validate(&first, 1);
+    same("a second request", second_request(&first, 1), LAHZAVAR_ACCEPTED);
+    answer = tick(200);
+    same("frames", answer.frames, 3);
+    same("octets", answer.octets, 2 * LAHZAVAR_REPORT_OCTETS + LAHZAVAR_CONFIRMATION_OCTETS);
+    for (at = 0; at < answer.octets; at += length) {
+        const struct car *car = frames == 0 ? &second : frames == 1 ? &third : &first;
+        length = lahzavar_frame_octets(out + at, answer.octets - at);
+        same("octets of a frame", length, frames < 2 ? LAHZAVAR_REPORT_OCTETS : LAHZAVAR_CONFIRMATION_OCTETS);
+        same("its type", frame_type(out + at, length), frames < 2 ? CM_ATTEN_CHAR_IND : CM_VALIDATE_CNF);
+        same("its car", (size_t)memcmp(out + at, car->address, 6), 0);
+        frames++;
+    }
+    same("frames by their lengths", frames, answer.frames);
+    same("octets of no frame", lahzavar_frame_octets(out, 0), 0);
+    same("octets of NULL", lahzavar_frame_octets(NULL, sizeof out), 0);
+    same("octets of a frame that is cut", lahzavar_frame_octets(out, 100), 100);
+}
+
+static void states_and_indications(void)
+{
     plug_in();
     same("matching", lahzavar_station_state(&station), LAHZAVAR_MATCHING);
-    (void)hear(write_parm_req(frame, &first));
-    (void)hear(write_start(frame, &first));
-    for (left = 10; left > 1; left--) {
-        same("profile", hear(write_profile(frame, modem, us, first.address, left)).frames, 0);
-    }
-    same("report", hear(write_profile(frame, modem, us, first.address, 1)).octets, LAHZAVAR_REPORT_OCTETS);
-    (void)hear(write_rsp(frame, &first, us));
+    awaited(&first);
     same("confirmation", hear(write_match_req(frame, &first, us)).octets, 109);
     same("joining", lahzavar_station_state(&station), LAHZAVAR_JOINING);
     same("link established", lahzavar_station_link_up(&station).indication, LAHZAVAR_LINK_ESTABLISHED);
@@ -299,6 +442,10 @@ int main(void)
     wiped_station();
     sentences();
     states_and_indications();
+    validation();
+    other_validations();
+    exemptions();
+    frames_of_a_tick();
     pilots();
     return faults == 0 ? 0 : 1;
 }

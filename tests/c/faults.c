@@ -6,7 +6,7 @@
 #include "lent.h"
 #include "station_frames.h"
 
-#define STAGES 8
+#define STAGES 11
 #define CARS (LAHZAVAR_RECORDS + 1)
 
 static struct lahzavar_station stages[STAGES];
@@ -25,6 +25,8 @@ static size_t octets_of(unsigned type)
         return FRAME_LEAST;
     case CM_ATTEN_CHAR_IND:
         return LAHZAVAR_REPORT_OCTETS;
+    case CM_VALIDATE_CNF:
+        return LAHZAVAR_CONFIRMATION_OCTETS;
     case CM_SLAC_MATCH_CNF:
         return FRAME_HEAD + 90;
     default:
@@ -62,7 +64,7 @@ static void lend_changed(void)
     }
 }
 
-#define FRAMES 8
+#define FRAMES 10
 #define KINDS (FRAMES + 5)
 
 /* A frame of each message that a station takes, one that it does not, and random octets. */
@@ -82,6 +84,10 @@ static size_t write_frame(uint8_t *frame, size_t which, const struct car *car)
     case 5:
         return write_match_req(frame, car, us);
     case 6:
+        return write_validate_req(frame, car, us, 0);
+    case 7:
+        return write_validate_req(frame, car, broadcast_address, (unsigned)below(256));
+    case 8:
         return write_parm_cnf(frame, car, us);
     default:
         return write_random(frame);
@@ -146,10 +152,10 @@ static void call_configure(void)
 {
     begin("configure");
     check_configured(lahzavar_configure(lent_words(), lent_sums(), changed(0, some_car()), changed(1, some_car()),
-                                        changed(2, 3), next_random(), next_random()));
+                                        changed(2, 3), next_random(), next_random(), (uint32_t)changed(0, 1)));
 }
 
-/* One call of a kind: frames 0 to 7, tick, pilot, terminate, link up, readers. */
+/* One call of a kind: frames 0 to 9, tick, pilot, terminate, link up, readers. */
 static void call(size_t kind)
 {
     static void (*const others[])(void) = {call_tick, call_pilot, call_terminate, call_link_up, call_readers};
@@ -223,7 +229,27 @@ static void set_up_records(struct lahzavar_station *station, size_t count)
     }
 }
 
-/* The stages: fresh, plugged in with some records or all, reported, joining, matched, badly configured. */
+/* A car's validation, as far as a stage says: 7 ready, 8 counting, with a toggle begun, 9 success. */
+static void set_up_validation(struct lahzavar_station *station, size_t stage)
+{
+    uint8_t frame[FRAME_MOST], room[LAHZAVAR_LEAST_OUTPUT];
+    size_t length = write_validate_req(frame, &cars[4], us, 0);
+    uint32_t confirmed = lahzavar_station_frame(station, frame, length, room, sizeof room).frames;
+    if (stage >= 8) {
+        length = write_validate_req(frame, &cars[4], broadcast_address, 1);
+        confirmed += lahzavar_station_frame(station, frame, length, room, sizeof room).refusal == LAHZAVAR_ACCEPTED;
+        (void)lahzavar_station_pilot(station, LAHZAVAR_PILOT_C, 1000);
+    }
+    if (stage >= 9) {
+        (void)lahzavar_station_pilot(station, LAHZAVAR_PILOT_B, 1000);
+        confirmed += lahzavar_station_tick(station, 1200, room, sizeof room).frames;
+    }
+    if (confirmed != stage - 6) {
+        fail("a stage in another phase");
+    }
+}
+
+/* The stages: fresh, plugged in with some records or all, reported, joining, matched, validating, badly configured. */
 static void set_up(void)
 {
     uint8_t room[LAHZAVAR_LEAST_OUTPUT];
@@ -236,13 +262,15 @@ static void set_up(void)
     }
     for (at = 0; at < STAGES; at++) {
         uint64_t other = lahzavar_address(at == STAGES - 1 ? us : modem);
-        (void)lahzavar_station_configure(&stages[at], lahzavar_address(us), other, lahzavar_nid(nid), nmk);
+        (void)lahzavar_station_configure(&stages[at], lahzavar_address(us), other, lahzavar_nid(nid), nmk, at == 3);
         if (at > 0) {
             (void)lahzavar_station_pilot(&stages[at], LAHZAVAR_PILOT_B, 1000);
         }
         set_up_records(&stages[at], at == 2 ? 2 : at == 3 ? 4 : LAHZAVAR_RECORDS);
         if (at == 5 || at == 6) {
             play(&stages[at], 5, &cars[4]);
+        } else if (at >= 7 && at < STAGES - 1) {
+            set_up_validation(&stages[at], at);
         }
     }
     (void)lahzavar_station_tick(&stages[4], 1600, room, sizeof room);

@@ -24,7 +24,8 @@ static volatile uint32_t number;
 
 static void call_configure(void)
 {
-    answer = lahzavar_station_configure(&station, lahzavar_address(us), lahzavar_address(modem), lahzavar_nid(nid), nmk);
+    answer =
+        lahzavar_station_configure(&station, lahzavar_address(us), lahzavar_address(modem), lahzavar_nid(nid), nmk, false);
 }
 
 static void call_frame(void)
@@ -149,7 +150,24 @@ static void measure_reports(void)
     has_frames(&figures[TICK], LAHZAVAR_RECORDS);
 }
 
-/* A report by the tenth profile, its response and the match request of every car, and what follows the last one. */
+/* Both requests of a validation, a toggle, and the tick that reports to the cars behind and confirms; then as before. */
+static void measure_validation(unsigned place)
+{
+    struct lahzavar_station before = station;
+    struct car car = car_at(place);
+    measure_frame(write_validate_req(frame, &car, us, 0));
+    measure_frame(write_validate_req(frame, &car, broadcast_address, 0));
+    measure_pilot(LAHZAVAR_PILOT_C);
+    measure_pilot(LAHZAVAR_PILOT_B);
+    measure(&figures[TICK]);
+    has_frames(&figures[TICK], LAHZAVAR_RECORDS - place);
+    station = before;
+}
+
+/*
+ * A report by the tenth profile, its response, the validation and the match request of every car, and what follows the last
+ * one.
+ */
 static void measure_joining(void)
 {
     unsigned place;
@@ -157,6 +175,7 @@ static void measure_joining(void)
         struct car car = car_at(place);
         measure_frame(write_profile(frame, modem, us, car.address, 255));
         measure_frame(write_rsp(frame, &car, us));
+        measure_validation(place);
         length = write_match_req(frame, &car, us);
         measure_aside(&figures[MATCH]);
     }

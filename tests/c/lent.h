@@ -158,16 +158,19 @@ static inline void begin(const char *call)
 static inline void check_frames(struct lahzavar_answer answer, const struct limits *limits)
 {
     static const uint8_t head[3] = {0x88, 0xE1, 0x01};
-    size_t each = lahzavar_frame_octets(answer);
-    uint32_t at;
-    if (each * answer.frames != answer.octets) {
-        fail("frames of different lengths");
-    }
-    for (at = 0; at < answer.frames; at++) {
-        const uint8_t *frame = out.view + out.at + at * each;
-        if (each < FRAME_LEAST || memcmp(frame + 12, head, 3) != 0 || each != limits->octets_of(frame_type(frame, each))) {
+    uint32_t frames = 0;
+    size_t at, length;
+    for (at = 0; at < answer.octets; at += length) {
+        const uint8_t *frame = out.view + out.at + at;
+        length = lahzavar_frame_octets(frame, answer.octets - at);
+        if (length < FRAME_LEAST || memcmp(frame + 12, head, 3) != 0 ||
+            length != limits->octets_of(frame_type(frame, length))) {
             fail("a frame that this end never sends");
         }
+        frames++;
+    }
+    if (frames != answer.frames) {
+        fail("another number of frames than there are");
     }
 }
 
@@ -220,10 +223,10 @@ static inline void check_configured(struct lahzavar_answer answer)
 /* One word, changed in one of several ways; the address is one that the end knows. */
 static inline uint64_t changed(uint64_t word, uint64_t address)
 {
-    static const uint64_t limits[] = {0,          1,          4,          7,      10,         13,         40,
-                                      100,        200,        256,        400,    600,        1200,       10000,
-                                      12000,      14790,      50000,      0xFFFF, 0xFFFFFFFF, 1ull << 32, 1ull << 47,
-                                      1ull << 48, 1ull << 54, 1ull << 63, ~0ull};
+    static const uint64_t limits[] = {0,          1,          4,          7,          10,     13,         40,
+                                      100,        200,        256,        400,        600,    1200,       10000,
+                                      12000,      14790,      25600,      50000,      0xFFFF, 0xFFFFFFFF, 1ull << 32,
+                                      1ull << 47, 1ull << 48, 1ull << 54, 1ull << 63, ~0ull};
     switch (below(5)) {
     case 0:
         return next_random();

@@ -114,6 +114,10 @@ static inline const char *message_name(unsigned type)
         return "CM_ATTEN_CHAR.RSP";
     case CM_MNBC_SOUND_IND:
         return "CM_MNBC_SOUND.IND";
+    case CM_VALIDATE_REQ:
+        return "CM_VALIDATE.REQ";
+    case CM_VALIDATE_CNF:
+        return "CM_VALIDATE.CNF";
     case CM_SLAC_MATCH_REQ:
         return "CM_SLAC_MATCH.REQ";
     case CM_SLAC_MATCH_CNF:
@@ -183,6 +187,15 @@ static inline void log_answer(struct lahzavar_answer answer)
     } else {
         printf(": refused with %u: %s\n", (unsigned)answer.refusal, lahzavar_refusal_text(answer.refusal));
     }
+}
+
+/* What a CM_VALIDATE.CNF says. */
+static inline void log_validation(const uint8_t *frame)
+{
+    static const char *const results[] = {"not ready", "ready", "success", "failure", "not required"};
+    unsigned toggles = frame[FRAME_HEAD + 1], result = frame[FRAME_HEAD + 2];
+    log_begin("the validation: ");
+    printf("%s, toggles: %u\n", result < 5 ? results[result] : "no result", toggles);
 }
 
 static inline void line_send(const uint8_t *frame, size_t length)

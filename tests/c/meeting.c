@@ -1,7 +1,7 @@
 /*
  * Cars and stations of the library on one line, in simulated milliseconds. Each car is plugged into a bay of its own, and
  * every station hears every car, each with another attenuation. Each scenario prints a line; the first event that it does
- * not allow ends the program with 1. Usage: meeting SEEDS SEED [exchanged]
+ * not allow ends the program with 1. Usage: meeting SEEDS SEED [exchanged | crossed]
  *
  * A car that asks takes a record at every station that is plugged in and has one left, and holds it for more than ten
  * seconds, unless the station's own car joins before. So a station has a record left for its own car where fewer than
@@ -10,6 +10,9 @@
  *
  * With "exchanged" the modems name the car of bay 2 in the profiles of bay 1's, and the other way round, so that stations
  * report another car's sums.
+ *
+ * In the last scenario the car of bay 1 validates before it asks for the key: now and then it asks the station of bay 2
+ * first, and always its own. With "crossed" it hangs on the cable of bay 2.
  */
 #include "car_frames.h"
 #include "lahzavar.h"
@@ -29,6 +32,10 @@
 #define PAUSE_MOST 20000u   /* or longer than a record is held, since a car that asks again sooner keeps its records */
 #define STATION_PAUSE 1000u /* from a station's "no link" to its new matching */
 #define LIMIT 600000u       /* a car that has not joined by then does not join */
+#define TOGGLES_MOST 6u     /* of a validation, */
+#define TIMER_LEAST 4u      /* whose window is 100 ms times the timer and one more */
+#define TIMER_MOST 40u
+#define PATIENCE 300u /* how long a car waits for a station's answer, from when it is due */
 
 /* The fifth octet of an address; the last one is the bay. */
 enum side { CAR = 1, STATION = 2, MODEM = 3 };
@@ -70,6 +77,29 @@ struct frame {
     uint8_t octets[FRAME_MOST];
 };
 
+/* What a car that validates waits for. */
+enum step { NOTHING, PARAMETERS, REPORTS, READINESS, RESULT, KEY, LINK };
+
+/* The results of CM_VALIDATE.CNF that such a car is to be told. */
+enum result { READY = 1, SUCCESS = 2 };
+
+/* The car of bay 1 in the scenario in which it validates; its frames are written here, as the library's car does not. */
+struct validator {
+    struct car car;
+    enum step step;
+    uint32_t due; /* when the next frame is, or the patience ends */
+    unsigned to_sound, others_reports;
+    unsigned asked;                     /* the bay whose station validates */
+    unsigned timer, toggles;            /* of this validation */
+    unsigned changes;                   /* the pilot's, that are left */
+    uint32_t change_at, state_duration; /* the next one, and from one to the next */
+};
+
+/* What came of all validations. */
+struct validations {
+    unsigned matchings, toggles, unknown, others_asked, others_counted_none;
+};
+
 /* What came of all runs of a scenario. */
 struct tally {
     unsigned matchings, wrong_bays, not_joined, starts, starts_least, starts_most;
@@ -82,8 +112,10 @@ struct line {
     const struct scenario *scenario;
     char title[160];
     struct tally tally;
+    struct validations validations;
+    struct validator validator;
     uint64_t seed;
-    int exchanged;
+    int exchanged, crossed;
     unsigned reference, car_tick, station_tick, linked;
     uint32_t now, delay;
     struct bay bays[BAYS];
@@ -139,21 +171,27 @@ static void check_refusal(const struct line *line, unsigned bay, uint32_t refusa
     require(line, bay, usual, lahzavar_refusal_text(refusal));
 }
 
+/* Puts a frame on the line. */
+static void send_frame(struct line *line, unsigned bay, const uint8_t *octets, size_t length)
+{
+    struct frame *frame = &line->queue[line->put % QUEUE];
+    require(line, bay, line->put - line->taken < QUEUE && length <= FRAME_MOST, "the line has no room for a frame");
+    frame->due = line->now + line->delay;
+    frame->length = length;
+    memcpy(frame->octets, octets, length);
+    line->put++;
+}
+
 /* Puts the frames of an answer on the line; a station's key goes to its own car, unless any bay will do. */
 static void send_frames(struct line *line, unsigned bay, struct lahzavar_answer answer, const uint8_t *out)
 {
-    size_t each = lahzavar_frame_octets(answer);
-    uint32_t number;
+    size_t at, length;
     check_refusal(line, bay, answer.refusal);
-    for (number = 0; number < answer.frames; number++) {
-        struct frame *frame = &line->queue[line->put % QUEUE];
-        require(line, bay, line->put - line->taken < QUEUE && each <= FRAME_MOST, "the line has no room for a frame");
-        frame->due = line->now + line->delay;
-        frame->length = each;
-        memcpy(frame->octets, out + number * each, each);
-        line->put++;
-        if (frame_type(frame->octets, each) == CM_SLAC_MATCH_CNF && line->scenario->demand != ANY_BAY) {
-            require(line, bay, is_address(frame->octets, CAR, bay), "the station gives its key to another bay's car");
+    for (at = 0; at < answer.octets; at += length) {
+        length = lahzavar_frame_octets(out + at, answer.octets - at);
+        send_frame(line, bay, out + at, length);
+        if (frame_type(out + at, length) == CM_SLAC_MATCH_CNF && line->scenario->demand != ANY_BAY) {
+            require(line, bay, is_address(out + at, CAR, bay), "the station gives its key to another bay's car");
         }
     }
 }
@@ -219,6 +257,156 @@ static void obey_car(struct line *line, unsigned bay, struct lahzavar_answer ans
     }
 }
 
+/* The car that validates sends a first request to a station, for a window of its own. */
+static void ask_to_validate(struct line *line, unsigned bay)
+{
+    struct validator *own = &line->validator;
+    uint8_t station[6], frame[FRAME_MOST];
+    address_of(STATION, bay, station);
+    own->asked = bay;
+    own->timer = between(TIMER_LEAST, TIMER_MOST);
+    own->toggles = between(1, TOGGLES_MOST);
+    own->step = READINESS;
+    own->due = line->now + PATIENCE;
+    send_frame(line, 0, frame, write_validate_req(frame, &own->car, station, 0));
+}
+
+/*
+ * It sends the second request, to all, and begins to toggle once that is heard. A window begins at the station's last tick
+ * and ends at one, so that the toggles are through a tick before the window is.
+ */
+static void begin_toggles(struct line *line)
+{
+    struct validator *own = &line->validator;
+    uint8_t frame[FRAME_MOST];
+    uint32_t window = 100 * (own->timer + 1), start = 2 * DELAY_MOST;
+    own->changes = 2 * own->toggles;
+    own->change_at = line->now + start;
+    own->state_duration = between(5, (window - start - DELAY_MOST - line->station_tick) / own->changes);
+    own->step = RESULT;
+    own->due = line->now + window + PATIENCE;
+    send_frame(line, 0, frame, write_validate_req(frame, &own->car, broadcast_address, own->timer));
+}
+
+/* Its own station has seen every toggle, and the other one none: only then it asks for the key. */
+static void take_result(struct line *line, unsigned toggles)
+{
+    struct validator *own = &line->validator;
+    uint8_t station[6], frame[FRAME_MOST];
+    require(line, 0, own->changes == 0, "the window has ended early");
+    if (own->asked != 0) {
+        require(line, 0, toggles == 0, "the other bay's station has counted toggles");
+        line->validations.others_counted_none++;
+        ask_to_validate(line, 0);
+        return;
+    }
+    require(line, 0, toggles == own->toggles, "the station has counted other toggles than there were");
+    line->validations.toggles += toggles;
+    own->step = KEY;
+    own->due = line->now + PATIENCE;
+    address_of(STATION, 0, station);
+    send_frame(line, 0, frame, write_match_req(frame, &own->car, station));
+}
+
+/* Only the station that was asked confirms, and only in its turn. */
+static void take_confirmation(struct line *line, const uint8_t *frame)
+{
+    unsigned toggles = frame[FRAME_HEAD + 1], result = frame[FRAME_HEAD + 2];
+    require(line, 0, is_address(frame + 6, STATION, line->validator.asked), "another station than was asked confirms");
+    if (line->validator.step == READINESS) {
+        require(line, 0, result == READY && toggles == 0, "the station is not ready");
+        begin_toggles(line);
+    } else {
+        require(line, 0, line->validator.step == RESULT && result == SUCCESS, "the station says no success");
+        take_result(line, toggles);
+    }
+}
+
+/* The key is that of its own station, and the modems have a link at once. */
+static void take_match(struct line *line, const uint8_t *frame)
+{
+    struct bay *own = &line->bays[0];
+    const uint8_t *payload = frame + FRAME_HEAD;
+    require(line, 0, line->validator.step == KEY && is_address(frame + 6, STATION, 0), "another station gives its key");
+    require(line, 0, memcmp(payload + 66, own->nid, 7) == 0 && memcmp(payload + 74, own->nmk, 16) == 0,
+            "the car's key is not the station's");
+    require(line, 0, lahzavar_station_link_up(&own->station).indication == LAHZAVAR_LINK_ESTABLISHED, "one end has no link");
+    line->validator.step = LINK;
+    line->validations.matchings++;
+}
+
+/* What the car that validates does with a frame. */
+static void give_validator(struct line *line, const uint8_t *octets, size_t length)
+{
+    struct validator *own = &line->validator;
+    uint8_t frame[FRAME_MOST];
+    unsigned type = is_address(octets, CAR, 0) ? frame_type(octets, length) : 0;
+    if (type == CM_SLAC_PARM_CNF && own->step == PARAMETERS) {
+        own->step = REPORTS;
+        own->due = line->now + 100;
+    } else if (type == CM_ATTEN_CHAR_IND) {
+        own->others_reports += !is_address(octets + 6, STATION, 0);
+        send_frame(line, 0, frame, write_rsp(frame, &own->car, octets + 6));
+    } else if (type == CM_VALIDATE_CNF) {
+        take_confirmation(line, octets);
+    } else if (type == CM_SLAC_MATCH_CNF) {
+        take_match(line, octets);
+    }
+}
+
+/* It starts, or sends its next sound, or once all were sent a first validate request. */
+static void next_frame(struct line *line)
+{
+    struct validator *own = &line->validator;
+    uint8_t frame[FRAME_MOST];
+    if (own->step == NOTHING) {
+        own->step = PARAMETERS;
+        own->due = line->now + PATIENCE;
+        send_frame(line, 0, frame, write_parm_req(frame, &own->car));
+    } else if (own->to_sound > 0) {
+        own->to_sound--;
+        own->due = line->now + (own->to_sound > 0 ? 40 : PATIENCE);
+        send_frame(line, 0, frame,
+                   own->to_sound == 10 ? write_start(frame, &own->car) : write_sound(frame, &own->car, own->to_sound));
+    } else {
+        unsigned other = own->others_reports > 0 && below(2) == 0;
+        line->validations.unknown += own->others_reports == 0;
+        line->validations.others_asked += other;
+        ask_to_validate(line, other);
+    }
+}
+
+/* Its pilot is that of its own bay. */
+static void change_pilot(struct line *line)
+{
+    struct validator *own = &line->validator;
+    struct bay *bay = &line->bays[line->crossed ? 1 : 0];
+    enum lahzavar_pilot_state pilot = own->changes % 2 == 0 ? LAHZAVAR_PILOT_C : LAHZAVAR_PILOT_B;
+    own->changes--;
+    own->change_at += own->state_duration;
+    check_refusal(line, 0, lahzavar_station_pilot(&bay->station, pilot, bay->station_clock + line->now).refusal);
+}
+
+/*
+ * What is due of the car that validates. A station that another car joins says no more: only its own has to answer in time.
+ */
+static void validate(struct line *line)
+{
+    struct validator *own = &line->validator;
+    if (own->changes > 0 && own->change_at == line->now) {
+        change_pilot(line);
+    }
+    if (own->due != line->now) {
+        return;
+    }
+    if (own->step == NOTHING || own->step == REPORTS) {
+        next_frame(line);
+    } else if (own->step != LINK) {
+        require(line, 0, own->step > REPORTS && own->asked != 0, "the station does not answer");
+        ask_to_validate(line, 0);
+    }
+}
+
 static void give_station(struct line *line, unsigned bay, const uint8_t *octets, size_t length)
 {
     uint8_t out[LAHZAVAR_LEAST_OUTPUT];
@@ -228,6 +416,10 @@ static void give_station(struct line *line, unsigned bay, const uint8_t *octets,
 static void give_car(struct line *line, unsigned bay, const uint8_t *octets, size_t length)
 {
     uint8_t out[LAHZAVAR_CAR_LEAST_OUTPUT];
+    if (bay == 0 && line->validator.step != NOTHING) {
+        give_validator(line, octets, length);
+        return;
+    }
     obey_car(line, bay, lahzavar_car_frame(&line->bays[bay].car, octets, length, out, sizeof out), out);
 }
 
@@ -293,7 +485,7 @@ static void configure_station(struct line *line, unsigned bay)
     fill(own->nmk, 16);
     own->nid[6] &= 0x3F;
     answer = lahzavar_station_configure(&own->station, lahzavar_address(us), lahzavar_address(modem), lahzavar_nid(own->nid),
-                                        own->nmk);
+                                        own->nmk, false);
     check_refusal(line, bay, answer.refusal);
 }
 
@@ -512,6 +704,60 @@ static void try_scenario(struct line *line, const struct scenario *scenario, uin
     print(line);
 }
 
+/* Draws a run with a car that validates; the other one starts before, meanwhile or never. */
+static void draw_validation(struct line *line)
+{
+    static const struct validator nobody;
+    struct validator *own = &line->validator;
+    struct bay *other = &line->bays[1];
+    draw(line);
+    line->bays[0].plug_in_at = between(0, 3000);
+    line->bays[0].start_at = NEVER;
+    other->plug_in_at = between(0, 3000);
+    other->start_at = below(3) == 0 ? NEVER : other->plug_in_at + between(100, 8000);
+    *own = nobody;
+    own->due = line->bays[0].plug_in_at + between(100, 1000);
+    own->to_sound = 11;
+    address_of(CAR, 0, own->car.address);
+    fill(own->car.run, 8);
+}
+
+static void run_validation(struct line *line)
+{
+    for (; line->validator.step != LINK && line->now < LIMIT; line->now++) {
+        do_what_is_due(line);
+        validate(line);
+        tick(line);
+        deliver_due(line);
+    }
+    require(line, 0, line->validator.step == LINK, "the car has not joined");
+}
+
+/* Runs the scenario with a car that validates with each seed, and with ticks up to the longest that a station may have. */
+static void try_validation(struct line *line, uint64_t seeds, uint64_t seed)
+{
+    static const struct scenario scenario = {2, {1, 6}, {12, 40}, ONE_BY_ONE, 0, OWN_BAY_AT_FIRST_START};
+    static const unsigned ticks[4] = {1, 5, 10, 100};
+    const struct validations *came = &line->validations;
+    unsigned at;
+    set_up(line, &scenario);
+    snprintf(line->title, sizeof line->title, "2 bays, the first one's car validates by up to %u toggles", TOGGLES_MOST);
+    for (line->seed = seed; line->seed < seed + seeds; line->seed++) {
+        for (at = 0; at < 32; at++) {
+            random_state = line->seed << 8 | at;
+            line->reference = at % 2 == 0 ? 26 : 0;
+            line->car_tick = 5;
+            line->station_tick = ticks[at / 2 % 4];
+            draw_validation(line);
+            run_validation(line);
+        }
+    }
+    printf("%s: %u matchings, %u toggles; the other station did not know the car %u times, was asked first %u times and "
+           "then counted none %u times\n",
+           line->title, came->matchings, came->toggles, came->unknown, came->others_asked, came->others_counted_none);
+    fflush(stdout);
+}
+
 int main(int count, char **arguments)
 {
     static const struct scenario scenarios[] = {
@@ -532,9 +778,13 @@ int main(int count, char **arguments)
     uint64_t seeds = count > 1 ? strtoull(arguments[1], NULL, 10) : 1;
     uint64_t seed = count > 2 ? strtoull(arguments[2], NULL, 10) : 1;
     size_t at, most = sizeof scenarios / sizeof *scenarios;
-    line.exchanged = count > 3;
-    for (at = 0; at < (line.exchanged ? 1 : most) && seeds > 0; at++) {
+    line.exchanged = count > 3 && strcmp(arguments[3], "exchanged") == 0;
+    line.crossed = count > 3 && strcmp(arguments[3], "crossed") == 0;
+    for (at = 0; at < (line.exchanged ? 1 : line.crossed ? 0 : most) && seeds > 0; at++) {
         try_scenario(&line, &scenarios[at], seeds, seed);
+    }
+    if (!line.exchanged && seeds > 0) {
+        try_validation(&line, seeds, seed);
     }
     return 0;
 }

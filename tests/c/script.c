@@ -7,13 +7,17 @@ static struct lahzavar_station station;
 
 static void configure(void)
 {
+    struct lahzavar_answer answer;
     uint8_t us[6], modem[6], nid[7], nmk[16];
+    bool validation_not_required;
     take(us, 6);
     take(modem, 6);
     take(nid, 7);
     take(nmk, 16);
-    put_number(lahzavar_station_configure(&station, lahzavar_address(us), lahzavar_address(modem), lahzavar_nid(nid), nmk)
-                   .refusal);
+    validation_not_required = take_setting();
+    answer = lahzavar_station_configure(&station, lahzavar_address(us), lahzavar_address(modem), lahzavar_nid(nid), nmk,
+                                        validation_not_required);
+    put_number(answer.refusal);
 }
 
 static void put_heard(struct lahzavar_heard heard)

@@ -39,6 +39,16 @@ static inline uint32_t take_number(void)
     return (uint32_t)four[0] | (uint32_t)four[1] << 8 | (uint32_t)four[2] << 16 | (uint32_t)four[3] << 24;
 }
 
+/* A setting of the head: 1 for yes, 0 for no. */
+static inline bool take_setting(void)
+{
+    uint32_t number = take_number();
+    if (number > 1) {
+        fail("a setting that is neither 0 nor 1");
+    }
+    return number == 1;
+}
+
 static inline void take_event(struct event *event)
 {
     event->kind = take_number();

@@ -30,6 +30,16 @@ static inline size_t write_report(uint8_t *frame, const struct car *car, const u
     return length;
 }
 
+/* What a station answers to a validate request: the toggles that it has counted, and a result. */
+static inline size_t write_validate_cnf(uint8_t *frame, const struct car *car, const uint8_t *station, unsigned toggles,
+                                        unsigned result)
+{
+    size_t length = write_head(frame, car->address, station, CM_VALIDATE_CNF, 3);
+    frame[FRAME_HEAD + 1] = (uint8_t)toggles;
+    frame[FRAME_HEAD + 2] = (uint8_t)result;
+    return length;
+}
+
 static inline size_t write_match_cnf(uint8_t *frame, const struct car *car, const uint8_t *station, const uint8_t nid[7],
                                      const uint8_t nmk[16])
 {

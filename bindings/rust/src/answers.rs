@@ -1,7 +1,7 @@
 //! What an accepted event gives.
 
 use crate::raw::Answered;
-use crate::{Indication, Refusal};
+use crate::{Indication, Refusal, CONFIRMATION_OCTETS, REPORT_OCTETS};
 use core::fmt;
 use core::iter::FusedIterator;
 
@@ -31,7 +31,7 @@ pub struct Done<'a> {
 }
 
 impl<'a> Done<'a> {
-    /// The frames to send, one by one.
+    /// The frames to send, one by one; those of one tick may differ in length.
     pub fn frames(&self) -> Frames<'a> {
         Frames { octets: self.octets, left: self.frames }
     }
@@ -67,6 +67,17 @@ impl fmt::Debug for Done<'_> {
     }
 }
 
+/// The octets of the first of the frames that stand here back to back; its type tells them. Reports
+/// and `CM_VALIDATE.CNF` may stand in one answer, any other frame is alone in its.
+fn frame_octets(frames: &[u8]) -> usize {
+    let told = match frames.get(15..17) {
+        Some([0x6E, 0x60]) => REPORT_OCTETS,
+        Some([0x79, 0x60]) => CONFIRMATION_OCTETS,
+        _ => frames.len(),
+    };
+    told.min(frames.len())
+}
+
 /// The frames of an accepted event, in the order in which they stand in the output.
 #[derive(Clone)]
 #[must_use]
@@ -79,10 +90,9 @@ impl<'a> Iterator for Frames<'a> {
     type Item = &'a [u8];
 
     fn next(&mut self) -> Option<&'a [u8]> {
-        // The frames of one answer are of one length.
-        let each = self.octets.len().checked_div(self.left)?;
-        let (frame, rest) = self.octets.split_at(each);
-        (self.octets, self.left) = (rest, self.left - 1);
+        self.left = self.left.checked_sub(1)?;
+        let (frame, rest) = self.octets.split_at(frame_octets(self.octets));
+        self.octets = rest;
         Some(frame)
     }
 

@@ -14,8 +14,10 @@ use core::fmt;
 ///     modem: [2, 0, 0, 0, 0, 0xBB],
 ///     nid: [1, 2, 3, 4, 5, 6, 7],
 ///     nmk: [0x4B; 16],
+///     validation_not_required: false,
 /// };
-/// assert!(format!("{configuration:?}").ends_with("nid: [1, 2, 3, 4, 5, 6, 7], .. }"));
+/// let shown = format!("{configuration:?}");
+/// assert!(shown.ends_with("nid: [1, 2, 3, 4, 5, 6, 7], validation_not_required: false, .. }"));
 /// ```
 #[derive(Clone)]
 pub struct Configuration {
@@ -27,6 +29,11 @@ pub struct Configuration {
     pub nid: [u8; 7],
     /// The network membership key; ISO 15118-3 wants a fresh one for each plug-in.
     pub nmk: [u8; 16],
+    /// Usually false: a car that doubts which station it hangs on may ask for a validation, switch
+    /// the pilot between B and C, and be told how often the station saw that. True is for a place
+    /// where no car can be at the wrong bay: the station then answers "not required" to every such
+    /// request, and never counts.
+    pub validation_not_required: bool,
 }
 
 impl Drop for Configuration {
@@ -40,6 +47,7 @@ impl fmt::Debug for Configuration {
     fn fmt(&self, f: &mut fmt::Formatter) -> fmt::Result {
         let mut shown = f.debug_struct("Configuration");
         shown.field("address", &self.address).field("modem", &self.modem).field("nid", &self.nid);
+        shown.field("validation_not_required", &self.validation_not_required);
         shown.finish_non_exhaustive()
     }
 }
@@ -52,8 +60,13 @@ mod tests {
 
     #[test]
     fn a_dropped_configuration_is_wiped() {
-        let configuration =
-            Configuration { address: [2; 6], modem: [4; 6], nid: [6; 7], nmk: [0x4B; 16] };
+        let configuration = Configuration {
+            address: [2; 6],
+            modem: [4; 6],
+            nid: [6; 7],
+            nmk: [0x4B; 16],
+            validation_not_required: false,
+        };
         // SAFETY: octets stay octets.
         let nmk = after_drop(configuration, |dropped| unsafe {
             addr_of!((*dropped).nmk).read_volatile()

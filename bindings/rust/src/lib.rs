@@ -17,6 +17,7 @@
 //!     modem: [2, 0, 0, 0, 0, 0xBB],
 //!     nid: [1, 2, 3, 4, 5, 6, 7],
 //!     nmk: [0x4B; 16],
+//!     validation_not_required: false,
 //! })?;
 //! let mut out = [0; LEAST_OUTPUT];
 //!
@@ -123,6 +124,8 @@ pub const RECORDS: usize = 5;
 pub const GROUPS: usize = 58;
 /// The octets of one report, `CM_ATTEN_CHAR.IND`.
 pub const REPORT_OCTETS: usize = 71 + GROUPS;
+/// The octets of one confirmation of a validation, `CM_VALIDATE.CNF`.
+pub const CONFIRMATION_OCTETS: usize = 60;
 /// The least room that [`Station::frame`] and [`Station::tick`] ask for: a report to every car.
 pub const LEAST_OUTPUT: usize = REPORT_OCTETS * RECORDS;
 /// The most stations whose reports a car keeps.
@@ -130,11 +133,11 @@ pub const STATIONS: usize = 10;
 /// The least room that [`Car::start`], [`Car::frame`] and [`Car::tick`] ask for: a
 /// `CM_SLAC_MATCH.REQ`.
 pub const CAR_LEAST_OUTPUT: usize = 85;
-/// The version of the library that this wrapper describes, 0.3.1: 65536 times its first number, 256
+/// The version of the library that this wrapper describes, 0.4.0: 65536 times its first number, 256
 /// times its second, and its third.
-pub const VERSION: u32 = 256 * 3 + 1;
+pub const VERSION: u32 = 256 * 4;
 
-const WORDS: usize = 12 + 8 * RECORDS;
+const WORDS: usize = 13 + 8 * RECORDS;
 const SUMS: usize = GROUPS * RECORDS;
 const CAR_WORDS: usize = 16 + 2 * STATIONS;
 

@@ -38,7 +38,7 @@ pub enum Refusal {
     TooShort,
     /// 2: no SLAC frame: octets 12-14 or 17-18.
     BadHead,
-    /// 3: none of the nine messages.
+    /// 3: none of the eleven messages.
     UnknownType,
     /// 4: longer than its message is written.
     TooLong,

@@ -41,6 +41,7 @@ extern "C" {
         nid: u64,
         nmk_first: u64,
         nmk_last: u64,
+        exempt: u32,
     ) -> Answered;
     pub fn lahzavar_frame(
         words: &mut Words,

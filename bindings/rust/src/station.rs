@@ -28,8 +28,15 @@ impl Station {
     ///
     /// ```
     /// use lahzavar::{Configuration, Refusal, Station};
-    /// let address = [2, 0, 0, 0, 0, 0xAA];
-    /// let bad = Configuration { address, modem: address, nid: [0; 7], nmk: [0; 16] };
+    /// let good = Configuration {
+    ///     address: [2, 0, 0, 0, 0, 0xAA],
+    ///     modem: [2, 0, 0, 0, 0, 0xBB],
+    ///     nid: [0; 7],
+    ///     nmk: [0; 16],
+    ///     validation_not_required: false,
+    /// };
+    /// assert!(Station::new(&good).is_ok());
+    /// let bad = Configuration { modem: good.address, ..good };
     /// assert_eq!(Station::new(&bad).err(), Some(Refusal::BadConfiguration));
     /// ```
     pub fn new(configuration: &Configuration) -> Result<Station, Refusal> {
@@ -47,14 +54,15 @@ impl Station {
     /// Those of [`Station::new`]; the station then answers [`Refusal::BadConfiguration`] to
     /// everything.
     pub fn configure(&mut self, configuration: &Configuration) -> Result<(), Refusal> {
-        let Configuration { address, modem, nid, nmk } = configuration;
+        let Configuration { address, modem, nid, nmk, validation_not_required } = configuration;
         let (address, modem) = (number(address), number(modem));
         let nid = nid.iter().rev().fold(0, |number, octet| number << 8 | u64::from(*octet));
-        let (first, last) = halves(nmk);
+        let ((first, last), exempt) = (halves(nmk), u32::from(*validation_not_required));
         let Station { words, sums } = self;
         // SAFETY: both arrays are ours and of the library's lengths.
-        let answered =
-            unsafe { raw::lahzavar_configure(words, sums, address, modem, nid, first, last) };
+        let answered = unsafe {
+            raw::lahzavar_configure(words, sums, address, modem, nid, first, last, exempt)
+        };
         accepted(answered.refusal)
     }
 
@@ -68,6 +76,7 @@ impl Station {
     /// #     modem: [2, 0, 0, 0, 0, 0xBB],
     /// #     nid: [0; 7],
     /// #     nmk: [0; 16],
+    /// #     validation_not_required: false,
     /// # };
     /// let mut station = Station::new(&configuration)?;
     /// station.wipe();
@@ -101,8 +110,12 @@ impl Station {
         answer(&answered, out)
     }
 
-    /// A reading of a free-running millisecond clock that wraps at 2^32; every 10 ms is often
-    /// enough.
+    /// A reading of a free-running millisecond clock that wraps at 2^32: every 10 ms is often
+    /// enough, and at least every 100 ms while a car validates.
+    ///
+    /// The frames are reports, of [`REPORT_OCTETS`](crate::REPORT_OCTETS) each, and behind them what
+    /// a validation has come to, a `CM_VALIDATE.CNF` of
+    /// [`CONFIRMATION_OCTETS`](crate::CONFIRMATION_OCTETS).
     ///
     /// # Errors
     ///
@@ -116,6 +129,7 @@ impl Station {
     /// #     modem: [2, 0, 0, 0, 0, 0xBB],
     /// #     nid: [0; 7],
     /// #     nmk: [0; 16],
+    /// #     validation_not_required: false,
     /// # };
     /// let mut station = Station::new(&configuration)?;
     /// let mut out = [0; LEAST_OUTPUT];
@@ -132,7 +146,11 @@ impl Station {
         answer(&answered, out)
     }
 
-    /// The control pilot's state, at each change, with the clock's reading. There are no frames.
+    /// The control pilot's state with the clock's reading: at each change, also among B, C and D, at
+    /// once and in the order of what else happens. There are no frames.
+    ///
+    /// While a car validates, the changes from B to C and back are counted that come before the tick
+    /// which ends its time; the pilot has to be at B then.
     ///
     /// # Errors
     ///
@@ -219,8 +237,13 @@ mod tests {
 
     #[test]
     fn a_dropped_station_is_wiped() {
-        let configuration =
-            Configuration { address: [2; 6], modem: [4; 6], nid: [6; 7], nmk: [0x4B; 16] };
+        let configuration = Configuration {
+            address: [2; 6],
+            modem: [4; 6],
+            nid: [6; 7],
+            nmk: [0x4B; 16],
+            validation_not_required: false,
+        };
         let mut station = Station::new(&configuration).unwrap();
         assert!(station.pilot(Pilot::B, 5).is_ok());
         assert!(station.words.contains(&0x4B4B_4B4B_4B4B_4B4B));

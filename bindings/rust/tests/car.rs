@@ -18,7 +18,13 @@ const RANDOM: [u8; 16] = *b"abcdefghijklmnop";
 const START: u32 = 0xFFFF_FF00;
 
 fn plugged_station() -> Station {
-    let configuration = Configuration { address: STATION, modem: MODEM, nid: NID, nmk: NMK };
+    let configuration = Configuration {
+        address: STATION,
+        modem: MODEM,
+        nid: NID,
+        nmk: NMK,
+        validation_not_required: false,
+    };
     let mut station = Station::new(&configuration).unwrap();
     assert!(station.pilot(Pilot::B, START).is_ok());
     station
@@ -28,6 +34,12 @@ fn plugged_station() -> Station {
 fn report(from: Address, to: Address, run: [u8; 8], sounds: u8) -> Vec<u8> {
     let head = [&to[..], &from, &[0x88, 0xE1, 0x01, 0x6E, 0x60, 0, 0]].concat();
     [&head[..], &[0; 2], &to, &run, &[0; 34], &[sounds, 58], &[7; 58]].concat()
+}
+
+/// A station's answer to a validate request of a car.
+fn validate_cnf(from: Address, to: Address, toggles: u8, result: u8) -> Vec<u8> {
+    let head = [&to[..], &from, &[0x88, 0xE1, 0x01, 0x79, 0x60, 0, 0]].concat();
+    [&head[..], &[0, toggles, result], &[0; 38]].concat()
 }
 
 /// A car that was started and the output that is lent to it.
@@ -213,8 +225,11 @@ fn refusals_change_nothing() {
     assert_eq!(bench.hear(&[]), Err(Refusal::TooShort));
     assert_eq!(bench.hear(&[0; 60]), Err(Refusal::BadHead));
     assert_eq!(bench.hear(&neighbour.parm_req()), Err(Refusal::OnlyForStations));
+    let validation = neighbour.validate_req(frames::BROADCAST, 9);
+    assert_eq!(bench.hear(&validation), Err(Refusal::OnlyForStations));
     assert_eq!(bench.hear(&report(STATION, neighbour.address, RUN, 10)), Err(Refusal::NotForUs));
     assert_eq!(bench.hear(&report(STATION, CAR, RUN, 10)), Err(Refusal::WrongState));
+    assert_eq!(bench.hear(&validate_cnf(STATION, CAR, 2, 2)), Err(Refusal::WrongState));
     assert_eq!(bench.tick(START.wrapping_add(60_001)), Err(Refusal::TickGap));
     assert_eq!(bench.car.link_up(), Err(Refusal::WrongState));
     assert_eq!(bench.car.key().err(), Some(Refusal::WrongState));

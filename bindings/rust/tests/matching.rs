@@ -5,13 +5,19 @@ mod frames;
 
 use frames::{Address, Car};
 use lahzavar::{Answer, Configuration, Indication, Pilot, Refusal, State, Station};
-use lahzavar::{LEAST_OUTPUT, RECORDS, REPORT_OCTETS};
+use lahzavar::{CONFIRMATION_OCTETS, LEAST_OUTPUT, RECORDS, REPORT_OCTETS};
 
 const STATION: Address = [2, 0, 0, 0, 0, 0xAA];
 const MODEM: Address = [2, 0, 0, 0, 0, 0xBB];
 
 fn configuration() -> Configuration {
-    Configuration { address: STATION, modem: MODEM, nid: [1, 2, 3, 4, 5, 6, 7], nmk: [0x4B; 16] }
+    Configuration {
+        address: STATION,
+        modem: MODEM,
+        nid: [1, 2, 3, 4, 5, 6, 7],
+        nmk: [0x4B; 16],
+        validation_not_required: false,
+    }
 }
 
 fn car(last: u8) -> Car {
@@ -31,7 +37,11 @@ struct Bench {
 
 impl Bench {
     fn plugged() -> Bench {
-        let mut station = Station::new(&configuration()).unwrap();
+        Bench::plugged_with(&configuration())
+    }
+
+    fn plugged_with(configuration: &Configuration) -> Bench {
+        let mut station = Station::new(configuration).unwrap();
         assert!(nothing(station.pilot(Pilot::B, 5)));
         Bench { station, out: [0xEE; LEAST_OUTPUT] }
     }
@@ -54,6 +64,33 @@ impl Bench {
             assert!(self.hear(&profile).is_ok());
         }
     }
+
+    /// A car has its report and has answered it.
+    fn awaited(&mut self, car: &Car) {
+        self.sounded(car, 10);
+        assert!(nothing(self.hear(&car.rsp(STATION))));
+    }
+
+    /// The toggles and the result that a first request is answered with.
+    fn asked_to_validate(&mut self, car: &Car) -> (u8, u8) {
+        let replies = self.replies(&car.validate_req(STATION, 0));
+        assert_eq!(replies.len(), 1);
+        confirmed(replies[0], car)
+    }
+
+    fn toggle(&mut self, times: usize) {
+        for pilot in [Pilot::C, Pilot::B].into_iter().cycle().take(2 * times) {
+            assert!(nothing(self.station.pilot(pilot, 0)));
+        }
+    }
+}
+
+/// The toggles and the result of a `CM_VALIDATE.CNF` to a car.
+fn confirmed(frame: &[u8], car: &Car) -> (u8, u8) {
+    assert_eq!(frames::message_type(frame), frames::VALIDATE_CNF);
+    assert_eq!((&frame[..6], &frame[6..12]), (&car.address[..], &STATION[..]));
+    assert_eq!((frame.len(), frame[19]), (CONFIRMATION_OCTETS, 0));
+    (frame[20], frame[21])
 }
 
 #[test]
@@ -95,6 +132,70 @@ fn reports_of_one_tick_stand_back_to_back() {
     }
     assert_eq!((frames.next(), frames.next()), (None, None));
     assert!(done.frames().map(|report| report[5]).eq(cars));
+    assert!(done.frames().flatten().eq(done.octets()));
+}
+
+#[test]
+fn a_validation() {
+    let (mut bench, ours, other) = (Bench::plugged(), car(1), car(2));
+    bench.awaited(&ours);
+    bench.awaited(&other);
+    assert_eq!(bench.asked_to_validate(&ours), (0, 1));
+    assert_eq!(bench.asked_to_validate(&other), (0, 3));
+    let (first, second) = (ours.validate_req(STATION, 0), ours.validate_req(frames::BROADCAST, 9));
+    assert_eq!(bench.hear(&first), Err(Refusal::WrongPhase));
+    assert!(nothing(bench.hear(&second)));
+    assert_eq!(bench.hear(&second), Err(Refusal::WrongPhase));
+    assert_eq!(bench.hear(&ours.match_req(STATION)), Err(Refusal::WrongPhase));
+    bench.toggle(3);
+    assert!(nothing(bench.station.tick(5 + 999, &mut bench.out)));
+    let done = bench.station.tick(5 + 1000, &mut bench.out).unwrap();
+    assert_eq!((done.frames().len(), done.indication), (1, None));
+    assert_eq!(confirmed(done.octets(), &ours), (3, 2));
+    assert_eq!(bench.asked_to_validate(&other), (0, 1));
+    assert_eq!(bench.replies(&ours.match_req(STATION)).len(), 1);
+    assert_eq!(bench.station.state(), State::Joining);
+}
+
+#[test]
+fn a_validation_with_the_pilot_at_c() {
+    let (mut bench, car) = (Bench::plugged(), car(1));
+    bench.awaited(&car);
+    assert_eq!(bench.asked_to_validate(&car), (0, 1));
+    assert!(nothing(bench.hear(&car.validate_req(frames::BROADCAST, 0))));
+    bench.toggle(1);
+    assert!(nothing(bench.station.pilot(Pilot::C, 0)));
+    let done = bench.station.tick(5 + 100, &mut bench.out).unwrap();
+    assert_eq!(confirmed(done.octets(), &car), (0, 3));
+    assert_eq!((bench.station.state(), bench.station.records_held()), (State::Matching, 0));
+}
+
+#[test]
+fn a_validation_that_is_not_required() {
+    let exempt = Configuration { validation_not_required: true, ..configuration() };
+    let (mut bench, car) = (Bench::plugged_with(&exempt), car(1));
+    bench.awaited(&car);
+    assert_eq!(bench.asked_to_validate(&car), (0, 4));
+    assert_eq!(bench.asked_to_validate(&car), (0, 4));
+    let second = car.validate_req(frames::BROADCAST, 9);
+    assert_eq!(bench.hear(&second), Err(Refusal::WrongPhase));
+    assert_eq!(bench.replies(&car.match_req(STATION)).len(), 1);
+}
+
+/// The first car's window ends when the second one's report is sent again.
+#[test]
+fn frames_of_one_tick_may_differ_in_length() {
+    let (mut bench, first, second) = (Bench::plugged(), car(1), car(2));
+    bench.awaited(&first);
+    bench.sounded(&second, 10);
+    assert_eq!(bench.asked_to_validate(&first), (0, 1));
+    assert!(nothing(bench.hear(&first.validate_req(frames::BROADCAST, 1))));
+    let done = bench.station.tick(5 + 200, &mut bench.out).unwrap();
+    let lengths: Vec<usize> = done.frames().map(<[u8]>::len).collect();
+    assert_eq!(lengths, [REPORT_OCTETS, CONFIRMATION_OCTETS]);
+    let frames: Vec<&[u8]> = done.frames().collect();
+    assert_eq!(frames::message_type(frames[0]), frames::ATTEN_CHAR_IND);
+    assert_eq!((frames[0][5], confirmed(frames[1], &first)), (2, (0, 2)));
     assert!(done.frames().flatten().eq(done.octets()));
 }
 
@@ -141,8 +242,9 @@ fn bad_configurations() {
     let good = configuration();
     let group = Configuration { address: [1, 0, 0, 0, 0, 0], ..good.clone() };
     let nid = Configuration { nid: [0, 0, 0, 0, 0, 0, 0x40], ..good.clone() };
-    let same = Configuration { modem: STATION, ..good };
-    for bad in [group, nid, same] {
+    let same = Configuration { modem: STATION, ..good.clone() };
+    let exempt = Configuration { modem: STATION, validation_not_required: true, ..good };
+    for bad in [group, nid, same, exempt] {
         assert_eq!(Station::new(&bad).err(), Some(Refusal::BadConfiguration));
         let mut bench = Bench::plugged();
         assert_eq!(bench.station.configure(&bad), Err(Refusal::BadConfiguration));

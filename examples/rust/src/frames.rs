@@ -9,9 +9,10 @@ pub type Address = [u8; 6];
 pub const PARM_CNF: u16 = 0x6065;
 pub const ATTEN_CHAR_IND: u16 = 0x606E;
 pub const SOUND_IND: u16 = 0x6076;
+pub const VALIDATE_CNF: u16 = 0x6079;
 pub const MATCH_CNF: u16 = 0x607D;
 
-const BROADCAST: Address = [0xFF; 6];
+pub const BROADCAST: Address = [0xFF; 6];
 const HEAD: usize = 19;
 const LEAST: usize = 60;
 #[allow(clippy::cast_possible_truncation, reason = "58 fits an octet")]
@@ -66,6 +67,12 @@ impl Car {
     pub fn rsp(&self, station: Address) -> Vec<u8> {
         let payload: &[&[u8]] = &[&[0; 2], &self.address, &self.run, &[0; 35]];
         frame(station, self.address, 0x606F, payload)
+    }
+
+    /// The first request of a validation, to its station, with the timer 0, or the second one, to
+    /// all: the station then counts for 100 ms times the timer and one more.
+    pub fn validate_req(&self, to: Address, timer: u8) -> Vec<u8> {
+        frame(to, self.address, 0x6078, &[&[0, timer, 1]])
     }
 
     pub fn match_req(&self, station: Address) -> Vec<u8> {

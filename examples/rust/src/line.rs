@@ -25,8 +25,13 @@ pub struct Line {
 
 impl Line {
     pub fn new() -> Result<Line, Refusal> {
-        let configuration = Configuration { address: STATION, modem: MODEM, nid: NID, nmk: NMK };
-        let station = Station::new(&configuration)?;
+        let station = Station::new(&Configuration {
+            address: STATION,
+            modem: MODEM,
+            nid: NID,
+            nmk: NMK,
+            validation_not_required: false,
+        })?;
         Ok(Line { station, clock: PLUG_IN, events: VecDeque::new(), seed: 1 })
     }
 

@@ -22,7 +22,10 @@ const NEIGHBOUR: Car = Car { address: [2, 0, 0, 0, 0, 2], run: [9; 8] };
 /// What an interrupt hands over.
 enum Event {
     Frame(Vec<u8>),
+    /// Every 10 ms.
     Clock(u32),
+    /// Every change, also among B, C and D: a car may validate by them. They stand in the same queue
+    /// as the clock's readings, so that their order is kept.
     Pilot(Pilot, u32),
     LinkUp,
 }
@@ -36,7 +39,8 @@ struct Outcome {
 }
 
 impl Outcome {
-    /// Puts each frame into the send queue, keeps the indication, and counts a refusal.
+    /// Puts each frame into the send queue, at its own length, keeps the indication, and counts a
+    /// refusal.
     fn obey(&mut self, answer: Answer) {
         match answer {
             // A refused event changed nothing, so that the loop goes on.
@@ -139,6 +143,7 @@ fn main() -> ExitCode {
         modem: MODEM,
         nid: [1, 2, 3, 4, 5, 6, 7],
         nmk: *b"a key for tests.",
+        validation_not_required: false,
     };
     let mut station = match Station::new(&configuration) {
         Ok(station) => station,
