@@ -13,6 +13,7 @@ pub fn fresh(car: CarAddress, run: RunId) -> Record
     ensures { λ r. ⌜ r ≡ defined.fresh car run ⌝ }
 {
     let sums = rules::no_sums();
+    let spread = rules::no_spread();
     Record {
         car: car,
         run: run,
@@ -21,6 +22,7 @@ pub fn fresh(car: CarAddress, run: RunId) -> Record
         heard: 0,
         profiles: 0,
         sums: sums,
+        spread: spread,
     }
 }
 
@@ -31,6 +33,7 @@ pub fn owned(car: CarAddress, r: Record) -> Record
     let run = r.run;
     let phase = r.phase;
     let sums = r.sums;
+    let spread = r.spread;
     Record {
         car: car,
         run: run,
@@ -39,6 +42,7 @@ pub fn owned(car: CarAddress, r: Record) -> Record
         heard: r.heard,
         profiles: r.profiles,
         sums: sums,
+        spread: spread,
     }
 }
 
@@ -49,6 +53,7 @@ pub fn in_phase(r: Record, phase: Phase) -> Record
     let car = r.car;
     let run = r.run;
     let sums = r.sums;
+    let spread = r.spread;
     Record {
         car: car,
         run: run,
@@ -57,6 +62,7 @@ pub fn in_phase(r: Record, phase: Phase) -> Record
         heard: r.heard,
         profiles: r.profiles,
         sums: sums,
+        spread: spread,
     }
 }
 
@@ -68,6 +74,7 @@ pub fn with_heard(r: Record, heard: u16) -> Record
     let run = r.run;
     let phase = r.phase;
     let sums = r.sums;
+    let spread = r.spread;
     Record {
         car: car,
         run: run,
@@ -76,5 +83,6 @@ pub fn with_heard(r: Record, heard: u16) -> Record
         heard: heard,
         profiles: r.profiles,
         sums: sums,
+        spread: spread,
     }
 }

@@ -1,9 +1,10 @@
-// The sums of the profiles counted.
+// The sums and the spread of the profiles counted.
 use messages::GROUPS;
 use messages::GroupValues;
 use rules::GroupSums;
 use rules::Record;
-ghost use Prim.Native.Nat.{ℕ, _*_, _<_, _≤_};
+use rules::Spread;
+ghost use Prim.Native.Nat.{ℕ, _*_, _<_, _≤_, min, max};
 ghost use mathlib.Core.Path.{_≡_};
 ghost use lib.ListN.{getD};
 ghost use Rattle.ends.specs.Constants.{soundCount};
@@ -31,7 +32,39 @@ fn added(sums: GroupSums, values: GroupValues) -> GroupSums
     s
 }
 
-// The record with a profile's values added, and one more counted.
+// The lower of two values.
+fn lower(x: u8, y: u8) -> u8
+    ensures { λ r. ⌜ r ≡ min x y ⌝ }
+{
+    if x <= y { x } else { y }
+}
+
+// The higher of two values.
+fn higher(x: u8, y: u8) -> u8
+    ensures { λ r. ⌜ r ≡ max x y ⌝ }
+{
+    if x <= y { y } else { x }
+}
+
+// The spread with a profile's values taken into it: each group's least value lowered and its greatest raised.
+fn widened(spread: Spread, values: GroupValues) -> Spread
+    ensures { λ x. ⌜ x ≡ defined.widened values spread ⌝ }
+{
+    let mut least = spread.least;
+    let mut greatest = spread.greatest;
+    let mut i: usize = 0;
+    while i < GROUPS {
+        least[i] = lower(least[i], values[i]);
+        greatest[i] = higher(greatest[i], values[i]);
+        i = i + 1;
+    }
+    Spread {
+        least: least,
+        greatest: greatest,
+    }
+}
+
+// The record with a profile's values added, its spread widened, and one more counted.
 pub fn counted(r: Record, values: GroupValues) -> Record
     requires { ⌜ GoodRecord r ⌝ }
     ensures { λ x. ⌜ x ≡ defined.counted values r ⌝ }
@@ -40,7 +73,9 @@ pub fn counted(r: Record, values: GroupValues) -> Record
     let run = r.run;
     let phase = r.phase;
     let sums = r.sums;
+    let spread = r.spread;
     let more = added(sums, values);
+    let wider = widened(spread, values);
     Record {
         car: car,
         run: run,
@@ -49,5 +84,6 @@ pub fn counted(r: Record, values: GroupValues) -> Record
         heard: r.heard,
         profiles: r.profiles + 1,
         sums: more,
+        spread: wider,
     }
 }

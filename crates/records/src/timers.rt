@@ -193,6 +193,7 @@ pub fn freed(r: Record) -> Record
     let run = r.run;
     let phase = r.phase;
     let sums = r.sums;
+    let spread = r.spread;
     Record {
         car: car,
         run: run,
@@ -201,6 +202,7 @@ pub fn freed(r: Record) -> Record
         heard: r.heard,
         profiles: r.profiles,
         sums: sums,
+        spread: spread,
     }
 }
 
@@ -211,6 +213,7 @@ fn held_in(r: Record, phase: Phase) -> Record
     let car = r.car;
     let run = r.run;
     let sums = r.sums;
+    let spread = r.spread;
     Record {
         car: car,
         run: run,
@@ -219,5 +222,6 @@ fn held_in(r: Record, phase: Phase) -> Record
         heard: r.heard,
         profiles: r.profiles,
         sums: sums,
+        spread: spread,
     }
 }

@@ -29,7 +29,7 @@ use Rattle.rules.specs.Constants.{reportedTime, readyTime, windowStep, s
 use Rattle.ends.specs.Lists.{All}
 use Rattle.rules.specs.Calls.{Call, frame, tick, pilot, terminate, linkUp}
 use Rattle.rules.specs.Stations.{Shared, shared, inner}
-use Rattle.rules.specs.Records.{isHeld, holds, mine, freePlaces, owned, freed, noSums, fresh, inPhase, withHeard, added, counted}
+use Rattle.rules.specs.Records.{isHeld, holds, mine, freePlaces, owned, freed, noSums, fresh, inPhase, withHeard, merged, added, counted}
 use Rattle.rules.specs.Sounds.{isIn}
 use Rattle.rules.specs.Replies.{Reply}
 use Rattle.rules.specs.Received.{RecordMessage, parmReq, start, sound, profile, rsp, validateFirst, validateSecond, forRecord}
@@ -76,7 +76,7 @@ unfolding fresh noSums
 fit-fresh c run = record { sums = λ i. omega (arith, zeros groupCount i); phase = ((omega arith, omega arith), refl); heard = omega arith }
 
 sums-added : (xs vs : List ℕ) (n i : ℕ) → ((j : ℕ) → getD xs j 0 ≤ 255 * n) → Octets vs → getD (added xs vs) i 0 ≤ 255 * (n + 1)
-unfolding added
+unfolding merged
 sums-added [] vs n i a b = omega arith
 sums-added (x ∷ xs) [] n i a b = omega (arith, a i)
 sums-added (x ∷ xs) (v ∷ vs) n zero a b = omega (arith, a zero, b zero)

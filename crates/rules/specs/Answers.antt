@@ -6,25 +6,46 @@ use mathlib.Core.List.{List}
 use Rattle.messages.specs.declared.ModemAddress.{ModemAddress}
 use Rattle.messages.specs.declared.Nid.{Nid}
 use Rattle.messages.specs.declared.Nmk.{Nmk}
+use Rattle.messages.specs.declared.Refusal.{Refusal}
 use Rattle.messages.specs.declared.StationAddress.{StationAddress}
 use Rattle.octets.specs.Octets.{splice}
-use Rattle.messages.specs.Reading.{Checked, no, yes}
+use Rattle.messages.specs.Reading.{Checked, no, yes, noGroups}
 use Rattle.messages.specs.Answers.{numberOf}
 use Rattle.rules.specs.declared.Configured.{Configured}
 use Rattle.rules.specs.declared.HeardAnswer.{HeardAnswer}
 use Rattle.rules.specs.declared.HeardAnswer.the-variants as heardAnswer
+use Rattle.rules.specs.declared.Queried.{Queried}
+use Rattle.rules.specs.declared.Spread.{Spread}
 use Rattle.rules.specs.declared.Station.{Station}
 use Rattle.rules.specs.declared.Stepped.{Stepped}
 use Rattle.rules.specs.Calls.{Call}
 use Rattle.ends.specs.Answers.{answerOf, summary}
-use Rattle.ends.specs.Outcomes.{framesOf, joined}
-use Rattle.rules.specs.Rules.{configured, configuring, step, outcome}
+use Rattle.ends.specs.Outcomes.{framesOf, joined, andThen}
+use Rattle.rules.specs.Rules.{configured, configuring, step, outcome, Told}
 use Rattle.rules.specs.Invariant.{Invariant}
 
--- what the service query's answer says
+-- what the service query's answer says of the sounds heard
 abbrev pub heardOf : HeardAnswer → Checked ℕ
 heardOf (heardAnswer.Refused x) = no (numberOf x)
 heardOf (heardAnswer.Heard n) = yes n
+
+-- the sounds heard in what the query tells
+abbrev pub soundsIn : Checked Told → Checked ℕ
+soundsIn x = andThen x (λ (t : Told). yes (t .sounds))
+
+-- the spread in what the query tells, zeros where it is refused
+abbrev pub spreadIn : Checked Told → Spread
+spreadIn (no n) = record { least = noGroups; greatest = noGroups }
+spreadIn (yes t) = t .spread
+
+-- a refused query's answer
+abbrev pub untoldAs : Refusal → Queried
+untoldAs x = record { heard = heardAnswer.Refused x; spread = record { least = noGroups; greatest = noGroups } }
+
+-- the whole promise of the query, by its rule
+pub record Tells (rule : Checked Told) (q : Queried) : Type 0 where
+  pub heard : heardOf (q .heard) ≡ soundsIn rule
+  pub spread : q .spread ≡ spreadIn rule
 
 -- the whole promise of a call: r, and the output from entry to exit
 pub record Answers (s : Station) (x : Call) (entry exit : List ℕ) (r : Stepped) : Type 0 where

@@ -20,7 +20,7 @@ use Rattle.ends.specs.FirstFrames.{request, p1, p2}
 use Rattle.ends.specs.Lists.{only}
 use Rattle.rules.specs.Calls.{Call, frame, tick, pilot}
 use Rattle.ends.specs.Outcomes.{Outcome}
-use Rattle.rules.specs.Records.{isHeld}
+use Rattle.rules.specs.Records.{isHeld, noSpread}
 use Rattle.rules.specs.Rules.{freeRecord, step, outcome, after}
 
 -- ---- what a row asks, and what comes out
@@ -72,11 +72,11 @@ station = stationThat false
 
 -- a held record of the car 02:00:00:00:00:n in the run 01..08, so many profiles counted, each group's sum the same
 abbrev held : ℕ → Phase → ℕ → ℕ → ℕ → Record
-held n p heard profiles sum = record { car = record { 0 = 0x020000000000 + n }; run = record { 0 = 0x0102030405060708 }; held = true; phase = p; heard = heard; profiles = profiles; sums = replicate groupCount sum }
+held n p heard profiles sum = record { car = record { 0 = 0x020000000000 + n }; run = record { 0 = 0x0102030405060708 }; held = true; phase = p; heard = heard; profiles = profiles; sums = replicate groupCount sum; spread = noSpread }
 
 -- a held record of the car of P1 in another run: sounds heard, profiles counted
 abbrev older : Record
-older = record { car = record { 0 = 0x020000000001 }; run = record { 0 = 9 }; held = true; phase = Sounding 100; heard = 7; profiles = 3; sums = replicate groupCount 30 }
+older = record { car = record { 0 = 0x020000000001 }; run = record { 0 = 9 }; held = true; phase = Sounding 100; heard = 7; profiles = 3; sums = replicate groupCount 30; spread = record { least = replicate groupCount 10; greatest = replicate groupCount 10 } }
 
 -- n other cars, from 02:00:00:00:00:02 on
 abbrev others : ℕ → List Record
@@ -168,7 +168,7 @@ table =
     -- P7: profiles 10 and 11 in a group: reports 10, used 2
     ∷ record {
       asked = running (station (Matching 50000) B 0 (held 1 (Sounding 600) 0 0 0 ∷ [])) (frame (profileOf 10) leastOutput ∷ frame (profileOf 11) leastOutput ∷ tick 600 leastOutput ∷ []);
-      expected = runs (sends [] ∷ sends [] ∷ sends (reportTo 2 10 ∷ []) ∷ []) (Matching 49400) 600 (held 1 (Reported 200 2) 0 2 21 ∷ []);
+      expected = runs (sends [] ∷ sends [] ∷ sends (reportTo 2 10 ∷ []) ∷ []) (Matching 49400) 600 (record { car = record { 0 = 0x020000000001 }; run = record { 0 = 0x0102030405060708 }; held = true; phase = Reported 200 2; heard = 0; profiles = 2; sums = replicate groupCount 21; spread = record { least = replicate groupCount 10; greatest = replicate groupCount 11 } } ∷ []);
     }
     -- P8: last 4,294,967,290, now 4: elapsed 10
     ∷ record {

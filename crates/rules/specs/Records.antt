@@ -1,5 +1,5 @@
 -- Records: whose they are, which are free, and how one is put back.
-use Prim.Native.Nat.{ℕ, _+_}
+use Prim.Native.Nat.{ℕ, _+_, min, max}
 use mathlib.Core.Bool.{Bool, true, false, not, cond, _&&_}
 use mathlib.Core.List.{List, [], _∷_}
 use lib.Dec.{eqb}
@@ -10,6 +10,7 @@ use Rattle.messages.specs.Table.{groupCount}
 use Rattle.rules.specs.declared.Phase.{Phase}
 use Rattle.rules.specs.declared.Phase.the-variants.{Asked, Reported}
 use Rattle.rules.specs.declared.Record.{Record}
+use Rattle.rules.specs.declared.Spread.{Spread}
 use Rattle.rules.specs.Constants.{askedTime, reportedTime}
 use Rattle.ends.specs.Lists.{only}
 
@@ -47,11 +48,11 @@ noneHeld rs = eqb (length (only isHeld rs)) 0
 
 -- the record as car c's own, and held
 unfoldable pub owned : CarAddress → Record → Record
-owned c r = record { car = c; run = r .run; held = true; phase = r .phase; heard = r .heard; profiles = r .profiles; sums = r .sums }
+owned c r = record { car = c; run = r .run; held = true; phase = r .phase; heard = r .heard; profiles = r .profiles; sums = r .sums; spread = r .spread }
 
 -- "record freed"
 unfoldable pub freed : Record → Record
-freed r = record { car = r .car; run = r .run; held = false; phase = r .phase; heard = r .heard; profiles = r .profiles; sums = r .sums }
+freed r = record { car = r .car; run = r .run; held = false; phase = r .phase; heard = r .heard; profiles = r .profiles; sums = r .sums; spread = r .spread }
 
 -- the record n for the one that car c holds
 unfoldable pub update : CarAddress → Record → List Record → List Record
@@ -67,13 +68,17 @@ insert n (r ∷ rs) = cond (isHeld r) (r ∷ insert n rs) (n ∷ rs)
 unfoldable pub noSums : List ℕ
 noSums = replicate groupCount 0
 
--- "phase Asked, 400; the request's run taken; sums, set and count zero"
+-- "255 as the least and 0 as the greatest value of every group"
+unfoldable pub noSpread : Spread
+noSpread = record { least = replicate groupCount 255; greatest = replicate groupCount 0 }
+
+-- "phase Asked, 400; the request's run taken; sums, set and count zero", and the spread cleared
 unfoldable pub fresh : CarAddress → RunId → Record
-fresh c run = record { car = c; run = run; held = true; phase = Asked askedTime; heard = 0; profiles = 0; sums = noSums }
+fresh c run = record { car = c; run = run; held = true; phase = Asked askedTime; heard = 0; profiles = 0; sums = noSums; spread = noSpread }
 
 -- the record in another phase
 unfoldable pub inPhase : Phase → Record → Record
-inPhase p r = record { car = r .car; run = r .run; held = r .held; phase = p; heard = r .heard; profiles = r .profiles; sums = r .sums }
+inPhase p r = record { car = r .car; run = r .run; held = r .held; phase = p; heard = r .heard; profiles = r .profiles; sums = r .sums; spread = r .spread }
 
 -- "Reported, 200", with so many retries left
 abbrev pub reported : ℕ → Record → Record
@@ -81,14 +86,22 @@ reported n r = inPhase (Reported reportedTime n) r
 
 -- the record with another set of sound counts
 unfoldable pub withHeard : ℕ → Record → Record
-withHeard h r = record { car = r .car; run = r .run; held = r .held; phase = r .phase; heard = h; profiles = r .profiles; sums = r .sums }
+withHeard h r = record { car = r .car; run = r .run; held = r .held; phase = r .phase; heard = h; profiles = r .profiles; sums = r .sums; spread = r .spread }
+
+-- each group's value put together with what the group has
+unfoldable pub merged : (ℕ → ℕ → ℕ) → List ℕ → List ℕ → List ℕ
+merged f [] vs = []
+merged f (x ∷ xs) [] = x ∷ xs
+merged f (x ∷ xs) (v ∷ vs) = f x v ∷ merged f xs vs
 
 -- "values added": each group's value to its sum
-unfoldable pub added : List ℕ → List ℕ → List ℕ
-added [] vs = []
-added (x ∷ xs) [] = x ∷ xs
-added (x ∷ xs) (v ∷ vs) = (x + v) ∷ added xs vs
+abbrev pub added : List ℕ → List ℕ → List ℕ
+added sums vs = merged _+_ sums vs
 
--- "values added, one more counted"
+-- "lowers the least and raises the greatest of each group where its value is lower or higher"
+unfoldable pub widened : List ℕ → Spread → Spread
+widened vs x = record { least = merged min (x .least) vs; greatest = merged max (x .greatest) vs }
+
+-- "values added, one more counted", and the spread widened
 unfoldable pub counted : List ℕ → Record → Record
-counted vs r = record { car = r .car; run = r .run; held = r .held; phase = r .phase; heard = r .heard; profiles = r .profiles + 1; sums = added (r .sums) vs }
+counted vs r = record { car = r .car; run = r .run; held = r .held; phase = r .phase; heard = r .heard; profiles = r .profiles + 1; sums = added (r .sums) vs; spread = widened vs (r .spread) }

@@ -17,6 +17,7 @@ use Rattle.rules.specs.declared.Pilot.{Pilot}
 use Rattle.rules.specs.declared.Pilot.the-variants.{A}
 use Rattle.rules.specs.declared.Record.{Record}
 use Rattle.rules.specs.declared.State.the-variants.{Unmatched}
+use Rattle.rules.specs.declared.Spread.{Spread}
 use Rattle.rules.specs.declared.Station.{Station}
 use Rattle.rules.specs.Constants.{recordCount}
 use Rattle.rules.specs.Calls.{Call, frame, tick, pilot, terminate, linkUp}
@@ -95,10 +96,19 @@ after s (x ∷ xs) = after (step s x) xs
 
 -- ---- the service query
 
--- "the number of ones in its set"; "11 where the car holds no record"
-abbrev pub heardIn : CarAddress → List Record → Checked ℕ
-heardIn c rs = atOwn (mine c rs) (λ (r : Record). yes (ones (r .heard)))
+-- what a record tells: the sounds heard, and the least and greatest values
+pub record Told : Type 0 where
+  pub sounds : ℕ
+  pub spread : Spread
+
+-- "the number of ones in its set", and the spread; 11 where it "counts no profile"
+abbrev pub toldOf : Record → Checked Told
+toldOf r = check (ltb 0 (r .profiles)) 11 (yes (record { sounds = ones (r .heard); spread = r .spread }))
+
+-- "11 where the car holds no record"
+abbrev pub toldIn : CarAddress → List Record → Checked Told
+toldIn c rs = atOwn (mine c rs) toldOf
 
 -- "by car address": 16, then 11
-unfoldable pub soundsHeard : Station → CarAddress → Checked ℕ
-soundsHeard s c = check (s .config .good) 16 (heardIn c (s .records))
+unfoldable pub query : Station → CarAddress → Checked Told
+query s c = check (s .config .good) 16 (toldIn c (s .records))

@@ -5,6 +5,7 @@ use ends::Indication;
 use ends::RESPONSE_TIME;
 use messages::CarAddress;
 use messages::GROUPS;
+use messages::GroupValues;
 use messages::ModemAddress;
 use messages::Nid;
 use messages::Nmk;
@@ -15,9 +16,10 @@ ghost use mathlib.Core.Path.{_≡_};
 ghost use lib.ListN.{replicate};
 ghost use Rattle.rules.specs.Constants.{recordCount};
 ghost use Rattle.rules.specs.Records as records;
-ghost use Rattle.rules.specs.Records.{noSums};
-ghost use Rattle.rules.specs.Rules.{isGood, freeRecord, heardIn, soundsHeard};
-ghost use Rattle.rules.specs.Answers.{heardOf, Configures};
+ghost use Rattle.rules.specs.Records.{noSums, noSpread};
+ghost use Rattle.rules.specs.Rules as rules;
+ghost use Rattle.rules.specs.Rules.{isGood, freeRecord, toldOf, toldIn};
+ghost use Rattle.rules.specs.Answers.{untoldAs, Tells, Configures};
 ghost use Rattle.rules.specs.Numbers.{pilotOf};
 
 // Admission's time, in milliseconds as the others: the greatest TT_EVSE_SLAC_init.
@@ -98,7 +100,13 @@ pub enum Phase {
 // The sums of a record's groups.
 pub type GroupSums = [u16; GROUPS];
 
-// One car's run: the sound counts heard are the ones of a set, the sums those of the profiles counted.
+// The least and the greatest value of each group.
+pub struct Spread {
+    pub least: GroupValues,
+    pub greatest: GroupValues,
+}
+
+// One car's run: the sound counts heard are the ones of a set, the sums and the spread those of the profiles counted.
 pub struct Record {
     pub car: CarAddress,
     pub run: RunId,
@@ -107,6 +115,7 @@ pub struct Record {
     pub heard: u16,
     pub profiles: u8,
     pub sums: GroupSums,
+    pub spread: Spread,
 }
 
 // The records of a station, side by side.
@@ -163,10 +172,16 @@ pub struct Configured {
     pub answer: Answer,
 }
 
-// What the service query gives: how many sounds a car's run has heard.
+// How many sounds a car's run has heard, or a refusal.
 pub enum HeardAnswer {
     Refused(Refusal),
     Heard(u32),
+}
+
+// What the service query gives: the sounds heard, or a refusal, and the spread, zeros where it is refused.
+pub struct Queried {
+    pub heard: HeardAnswer,
+    pub spread: Spread,
 }
 
 // A pilot state by its number: 0 to 4 for A to E, any other for F.
@@ -198,11 +213,22 @@ pub fn no_sums() -> GroupSums
     [0; GROUPS]
 }
 
+// The spread of no profile: 255 as the least and 0 as the greatest value of every group.
+pub fn no_spread() -> Spread
+    ensures { λ x. ⌜ x ≡ noSpread ⌝ }
+{
+    Spread {
+        least: [255; GROUPS],
+        greatest: [0; GROUPS],
+    }
+}
+
 // A record that no car has held.
 fn free_record() -> Record
     ensures { λ r. ⌜ r ≡ freeRecord ⌝ }
 {
     let sums = no_sums();
+    let spread = no_spread();
     Record {
         car: CarAddress(0),
         run: RunId(0),
@@ -211,6 +237,7 @@ fn free_record() -> Record
         heard: 0,
         profiles: 0,
         sums: sums,
+        spread: spread,
     }
 }
 
@@ -284,30 +311,59 @@ pub fn holds(car: CarAddress, r: Record) -> bool
     r.held & (car.0 == owner.0)
 }
 
-// How many sounds the car's record has heard.
-fn heard_in(records: RecordArray, car: CarAddress) -> HeardAnswer
-    ensures { λ r. ⌜ heardOf r ≡ heardIn car records ⌝ }
+// A refused query.
+fn untold(refusal: Refusal) -> Queried
+    ensures { λ q. ⌜ q ≡ untoldAs refusal ⌝ }
+{
+    let zeros = messages::no_groups();
+    let spread = Spread {
+        least: zeros,
+        greatest: zeros,
+    };
+    Queried {
+        heard: HeardAnswer::Refused(refusal),
+        spread: spread,
+    }
+}
+
+// What a record tells: 11 where it counts no profile.
+fn told_of(r: Record) -> Queried
+    ensures { λ q. ⌜ Tells (toldOf r) q ⌝ }
+{
+    if r.profiles == 0 {
+        return untold(Refusal::NoRecord);
+    }
+    let spread = r.spread;
+    Queried {
+        heard: HeardAnswer::Heard(u16::count_ones(r.heard)),
+        spread: spread,
+    }
+}
+
+// What the car's record tells.
+fn told_in(records: RecordArray, car: CarAddress) -> Queried
+    ensures { λ q. ⌜ Tells (toldIn car records) q ⌝ }
 {
     let mut i: usize = 0;
     while i < RECORDS {
         let r = records[i];
         if holds(car, r) {
-            return HeardAnswer::Heard(u16::count_ones(r.heard));
+            return told_of(r);
         }
         i = i + 1;
     }
-    HeardAnswer::Refused(Refusal::NoRecord)
+    untold(Refusal::NoRecord)
 }
 
-// The service query: how many sounds a car's run has heard.
-pub fn sounds_heard(station: Station, car: CarAddress) -> HeardAnswer
-    ensures { λ r. ⌜ heardOf r ≡ soundsHeard station car ⌝ }
+// The service query: how many sounds a car's run has heard, and the least and greatest value of each group.
+pub fn query(station: Station, car: CarAddress) -> Queried
+    ensures { λ q. ⌜ Tells (rules.query station car) q ⌝ }
 {
     let config = station.config;
     let records = station.records;
     if config.good {
-        heard_in(records, car)
+        told_in(records, car)
     } else {
-        HeardAnswer::Refused(Refusal::BadConfiguration)
+        untold(Refusal::BadConfiguration)
     }
 }

@@ -8,9 +8,12 @@ use Rattle.rules.proofs.free_record.Tie as tie
 no-sums-requires : tie.Need-no-sums-requires
 no-sums-requires c κs = search needs
 
+no-spread-requires : tie.Need-no-spread-requires
+no-spread-requires c κs = search needs
+
 returns : tie.Need-returns
 unfolding freeRecord freed fresh
-returns c = rw (c .no-sums .ensures)
+returns c = rw (c .before .no-sums .ensures, c .no-spread .ensures)
 
 pub free-record-spec : {M : Type 1} → statement M
-free-record-spec = tie.close (tie.spec no-sums-requires returns)
+free-record-spec = tie.close (tie.spec no-sums-requires no-spread-requires returns)

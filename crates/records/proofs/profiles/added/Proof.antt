@@ -1,22 +1,23 @@
 -- `records::profiles::added` meets its contract: the loop adds each value in turn.
-use Prim.Native.Nat.{_*_, _-_}
-use Rattle.records.proofs.LoopLaws.{Adding, adding-start, adding-next, adding-end}
+use Prim.Native.Nat.{ℕ, _+_, _*_, _-_}
+use Rattle.records.proofs.LoopLaws.{Merging, merging-start, merging-next, merging-end, Room, room-next}
 use Rattle.rules.proofs.IndexLaws.{passed}
 use Rattle.ends.specs.Constants.{soundCount}
 use borrow.Author.Needs.{needs}
-use lib.ListN.{length}
+use lib.ListN.{length, getD}
+use mathlib.Core.Path.{ap}
 use native.Mathlib.Omega.{arith}
 use Rattle.records.proofs.profiles.added.Statement.{statement}
 use Rattle.records.proofs.profiles.added.Tie as tie
 
 abbrev Inv-loop : tie.InvT-loop
-Inv-loop values s₀ i₀ s i = Adding (255 * soundCount) i s values s₀
+Inv-loop values s₀ i₀ s i = Merging _+_ i s values s₀ × Room (255 * soundCount) i s
 
 abbrev μ-loop : tie.MeasureT-loop
 μ-loop values s₀ i₀ s i = length s₀ - i
 
 loop-holds : tie.Need-loop-holds Inv-loop μ-loop
-loop-holds c = adding-start _ _ _ (c .pre)
+loop-holds c = (merging-start _+_ _ _, λ k l. c .pre k)
 
 mul-s : tie.Need-mul-s Inv-loop μ-loop
 mul-s c = search needs
@@ -31,7 +32,7 @@ wide-requires : tie.Need-wide-requires Inv-loop μ-loop
 wide-requires c κs = search needs
 
 add-s : tie.Need-add-s Inv-loop μ-loop
-add-s c = omega (arith, c .before .before .loop .inv .room (c .before .before .loop .i) (omega arith), c .wide .ensures .1)
+add-s c = omega (arith, c .before .before .loop .inv .1 (c .before .before .loop .i) (omega arith), c .wide .ensures .1)
 
 mul-s-2 : tie.Need-mul-s-2 Inv-loop μ-loop
 mul-s-2 c = search needs
@@ -46,10 +47,10 @@ loop-less : tie.Need-loop-less Inv-loop μ-loop
 loop-less c = search needs
 
 loop-again : tie.Need-loop-again Inv-loop μ-loop
-loop-again c = let loop = c .before .before .loop in adding-next _ (loop .i) (loop .s) _ _ _ (loop .inv) (search needs) (search needs) (c .wide .ensures .0)
+loop-again c = let loop = c .before .before .loop in (merging-next _+_ (loop .i) (loop .s) _ _ _ (loop .inv .0) (search needs) (search needs) (ap (λ (v : ℕ). getD (loop .s) (loop .i) 0 + v) (c .wide .ensures .0)), room-next _ (loop .i) _ (loop .s) (loop .inv .1))
 
 returns : tie.Need-returns Inv-loop μ-loop
-returns c = adding-end _ (c .before .loop .i) (c .before .loop .s) _ _ (c .before .loop .inv) (search (needs, passed))
+returns c = merging-end _+_ (c .before .loop .i) (c .before .loop .s) _ _ (c .before .loop .inv .0) (search (needs, passed))
 
 pub added-spec : {M : Type 1} → statement M
 added-spec =
