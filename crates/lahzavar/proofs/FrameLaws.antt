@@ -61,45 +61,45 @@ use Rattle.lahzavar.specs.Lent.{Lent}
 -- ---- what the parts come to
 
 -- the same rule in other words
-pub comes-as : (x y : Checked Done) (w s entry exit v t : List ℕ) (r : Answered) → x ≡ y → Comes x w s entry exit v t r → Comes y w s entry exit v t r
-comes-as x y w s entry exit v t r e h = subst (λ (z : Checked Done). Comes z w s entry exit v t r) e h
+pub comes-as : (x x′ : Checked Done) (w s z entry exit v t y : List ℕ) (r : Answered) → x ≡ x′ → Comes x w s z entry exit v t y r → Comes x′ w s z entry exit v t y r
+comes-as x x′ w s z entry exit v t y r e h = subst (λ (u : Checked Done). Comes u w s z entry exit v t y r) e h
 
 -- a refusal
-pub comes-refused : (x : Checked Done) (n : Refusal) (w s out : List ℕ) (r : Answered) → x ≡ no (numberOf n) → r ≡ saidOf (no (numberOf n)) → Comes x w s out out w s r
+pub comes-refused : (x : Checked Done) (n : Refusal) (w s z out : List ℕ) (r : Answered) → x ≡ no (numberOf n) → r ≡ saidOf (no (numberOf n)) → Comes x w s z out out w s z r
 unfolding splice joins
-comes-refused x n w s out r e q = comes-as (no (numberOf n)) x w s out out w s r (sym e) (record { station = refl; answer = q; octets = refl; kept = λ z. (refl, refl) })
+comes-refused x n w s z out r e q = comes-as (no (numberOf n)) x w s z out out w s z r (sym e) (record { station = refl; answer = q; octets = refl; kept = λ h. (refl, (refl, refl)) })
 
 -- a record stored at place i, and some frames sent
-pub comes-stored : (w s entry exit v t : List ℕ) (i : ℕ) (k : Record) (fs : List (List ℕ)) (r : Answered) → stationOf v t ≡ withRecords (stationOf w s) (set (recordsOf w s) i k)
+pub comes-stored : (w s z entry exit v t y : List ℕ) (i : ℕ) (k : Record) (fs : List (List ℕ)) (r : Answered) → stationOf v t y ≡ withRecords (stationOf w s z) (set (recordsOf w s z) i k)
     → r ≡ answered (yes (record { frames = fs; indication = Nothing })) → exit ≡ splice 0 (joined fs) entry
-    → Stores i k fs w s entry exit v t r
+    → Stores i k fs w s z entry exit v t y r
 unfolding stationOf
-comes-stored w s entry exit v t i k fs r p q e = record { station = p; answer = q; octets = e; kept = λ z. absurd (z (ap (λ (a : Answered). a .refusal) q)) }
+comes-stored w s z entry exit v t y i k fs r p q e = record { station = p; answer = q; octets = e; kept = λ h. absurd (h (ap (λ (a : Answered). a .refusal) q)) }
 
 -- the same with no frame
-pub comes-silent : (w s out v t : List ℕ) (i : ℕ) (k : Record) (r : Answered) → stationOf v t ≡ withRecords (stationOf w s) (set (recordsOf w s) i k)
-    → r ≡ saidOf (yes (record { frames = 0; octets = 0; indication = Nothing })) → Stores i k [] w s out out v t r
+pub comes-silent : (w s z out v t y : List ℕ) (i : ℕ) (k : Record) (r : Answered) → stationOf v t y ≡ withRecords (stationOf w s z) (set (recordsOf w s z) i k)
+    → r ≡ saidOf (yes (record { frames = 0; octets = 0; indication = Nothing })) → Stores i k [] w s z out out v t y r
 unfolding splice joins
-comes-silent w s out v t i k r p q = comes-stored w s out out v t i k [] r p q refl
+comes-silent w s z out v t y i k r p q = comes-stored w s z out out v t y i k [] r p q refl
 
 -- a record stored at place i, and a message sent that can be written
-pub comes-sent : (w s entry exit v t : List ℕ) (i : ℕ) (k : Record) (m : Message) (a : Answer) (r : Answered) → Writable m (length entry) → stationOf v t ≡ withRecords (stationOf w s) (set (recordsOf w s) i k)
-    → sending.Sends m Nothing entry exit a → r ≡ saidOf (answerOf a) → Stores i k (frame m ∷ []) w s entry exit v t r
-comes-sent w s entry exit v t i k m a r h p e q =
+pub comes-sent : (w s z entry exit v t y : List ℕ) (i : ℕ) (k : Record) (m : Message) (a : Answer) (r : Answered) → Writable m (length entry) → stationOf v t y ≡ withRecords (stationOf w s z) (set (recordsOf w s z) i k)
+    → sending.Sends m Nothing entry exit a → r ≡ saidOf (answerOf a) → Stores i k (frame m ∷ []) w s z entry exit v t y r
+comes-sent w s z entry exit v t y i k m a r h p e q =
     let sent : sending.sending m Nothing (length entry) ≡ yes (record { frames = frame m ∷ []; indication = Nothing }) = sends-writable m entry h Nothing in
-    comes-stored w s entry exit v t i k (frame m ∷ []) r p
+    comes-stored w s z entry exit v t y i k (frame m ∷ []) r p
     (q ∙ ap saidOf (e .answer ∙ ap summary sent))
     (e .octets ∙ ap (λ (u : Outcome). splice 0 (joined (framesOf u)) entry) sent)
 
 -- ---- what a car's request comes to, by what is read of the words
 
-module _ (w s : List ℕ) (c : CarAddress) where
+module _ (w s z : List ℕ) (c : CarAddress) where
   -- the rule of a request
   abbrev ruleOf : Request → Checked Done
-  ruleOf m = stateRule (stationOf w s .config) (stationOf w s .state) (stationOf w s .records) c m
+  ruleOf m = stateRule (stationOf w s z .config) (stationOf w s z .state) (stationOf w s z .records) c m
 
   -- the configuration
-  pub config-here : (o : Configuration) → o ≡ configOf w → o ≡ stationOf w s .config
+  pub config-here : (o : Configuration) → o ≡ configOf w → o ≡ stationOf w s z .config
   unfolding stationOf
   config-here o e = e
 
@@ -107,47 +107,47 @@ module _ (w s : List ℕ) (c : CarAddress) where
     -- 8 where the state is not Matching
     pub takes-none : (m : RecordMessage) → OneOf (0 ∷ 2 ∷ 3 ∷ []) (tagOf the-type st) → ruleOf (forRecord m) ≡ no 8
     unfolding stationOf
-    takes-none m t = ap (λ (q : State). stateRule (configOf w) q (recordsOf w s) c (forRecord m)) (sym es) ∙ state-other (configOf w) st (recordsOf w s) c m t
+    takes-none m t = ap (λ (q : State). stateRule (configOf w) q (recordsOf w s z) c (forRecord m)) (sym es) ∙ state-other (configOf w) st (recordsOf w s z) c m t
 
-    module _ (a : ℕ) (t : st ≡ Matching a) (p : Found) (ep : (z : List ℕ) → p ≡ placeOf c (recordsOf w z)) where
+    module _ (a : ℕ) (t : st ≡ Matching a) (p : Found) (ep : (u h : List ℕ) → p ≡ placeOf c (recordsOf w u h)) where
       -- PARM.REQ, by what is answered of the place
       pub takes-parm : (run : RunId) (x k : Admission) → admissionOf x ≡ admissionRule p (ltb 0 a) → x ≡ k
-          → ruleOf (forRecord (parmReq run)) ≡ andThen (admissionOf k) (λ (i : ℕ). settled (stationOf w s) i c (keeps (fresh c run) (parmCnf run ∷ [])))
+          → ruleOf (forRecord (parmReq run)) ≡ andThen (admissionOf k) (λ (i : ℕ). settled (stationOf w s z) i c (keeps (fresh c run) (parmCnf run ∷ [])))
       unfolding stationOf
       takes-parm run x k ex ek =
-          parm-answered (configOf w) (stateOf w) (recordsOf w s) c run a (sym es ∙ t) p (ep s) x ex
-          ∙ ap (λ (y : Admission). andThen (admissionOf y) (λ (i : ℕ). settled (stationOf w s) i c (keeps (fresh c run) (parmCnf run ∷ [])))) ek
+          parm-answered (configOf w) (stateOf w) (recordsOf w s z) c run a (sym es ∙ t) p (ep s z) x ex
+          ∙ ap (λ (y : Admission). andThen (admissionOf y) (λ (i : ℕ). settled (stationOf w s z) i c (keeps (fresh c run) (parmCnf run ∷ [])))) ek
 
       module _ (m : OwnMessage) (g : List ℕ) where
         -- 11 where the car holds no record
         pub takes-missing : OneOf (1 ∷ 2 ∷ []) (tagOf places.the-type p) → ruleOf (forRecord (ownMessageOf m g)) ≡ no 11
         unfolding stationOf
-        takes-missing o = own-none (stationOf w s) c (ownMessageOf m g) (ownRule m g) (change-own c m g _) a (sym es ∙ t) (not-own c (recordsOf w s) p (ep s) o)
+        takes-missing o = own-none (stationOf w s z) c (ownMessageOf m g) (ownRule m g) (change-own c m g _) a (sym es ∙ t) (not-own c (recordsOf w s z) p (ep s z) o)
 
         -- a message at the car's own record
-        pub takes-own : (i : ℕ) (d r : Record) (x : Checked Kept) → p ≡ Own i → r ≡ getD (recordsOf w s) i d → x ≡ ownRule m g r → settled (stationOf w s) i c x ≡ ruleOf (forRecord (ownMessageOf m g))
+        pub takes-own : (i : ℕ) (d r : Record) (x : Checked Kept) → p ≡ Own i → r ≡ getD (recordsOf w s z) i d → x ≡ ownRule m g r → settled (stationOf w s z) i c x ≡ ruleOf (forRecord (ownMessageOf m g))
         unfolding stationOf
-        takes-own i d r x e er ex = own-settled (stationOf w s) c (ownMessageOf m g) (ownRule m g) (change-own c m g _) i d x (a, sym es ∙ t) (found c (recordsOf w s) p (Own i) (ep s) e) (ex ∙ ap (ownRule m g) er)
+        takes-own i d r x e er ex = own-settled (stationOf w s z) c (ownMessageOf m g) (ownRule m g) (change-own c m g _) i d x (a, sym es ∙ t) (found c (recordsOf w s z) p (Own i) (ep s z) e) (ex ∙ ap (ownRule m g) er)
 
 -- ---- the call
 
-module _ (w s octets out : List ℕ) (o : Configuration) (st : State) (j : Judged) (eo : o ≡ configOf w) (es : st ≡ stateOf w)
+module _ (w s z octets out : List ℕ) (o : Configuration) (st : State) (j : Judged) (eo : o ≡ configOf w) (es : st ≡ stateOf w)
     (ej : judgedOf j (groupsOf (readRules octets)) ≡ judgeRule o st (length out) octets) where
   -- what judging gives of the station of the words
-  judged-here : (k : Judged) → j ≡ k → judgeRule (stationOf w s .config) (stationOf w s .state) (length out) octets ≡ judgedOf k (groupsOf (readRules octets))
+  judged-here : (k : Judged) → j ≡ k → judgeRule (stationOf w s z .config) (stationOf w s z .state) (length out) octets ≡ judgedOf k (groupsOf (readRules octets))
   unfolding stationOf
   judged-here k t = sym (ap₂ (λ (p : Configuration) (q : State). judgeRule p q (length out) octets) eo es) ∙ sym ej ∙ ap (λ (x : Judged). judgedOf x (groupsOf (readRules octets))) t
 
   -- the promise, from what the rule of the judged request comes to
-  pub frame-lent : (k : Judged) (exit v t : List ℕ) (r : Answered) → j ≡ k → Comes (andThen (judgedOf k (groupsOf (readRules octets))) (taken (stationOf w s))) w s out exit v t r
-      → Lent (calls.frame octets (length out)) w s out exit v t r
+  pub frame-lent : (k : Judged) (exit v t y : List ℕ) (r : Answered) → j ≡ k → Comes (andThen (judgedOf k (groupsOf (readRules octets))) (taken (stationOf w s z))) w s z out exit v t y r
+      → Lent (calls.frame octets (length out)) w s z out exit v t y r
   unfolding step outcome sharedStep
-  frame-lent k exit v t r e h =
-      comes-as _ (rule (shared (stationOf w s)) (inner (stationOf w s)) (calls.frame octets (length out))) w s out exit v t r
-      (sym (frame-judged (stationOf w s) octets (length out) ∙ ap (λ (x : Checked Asking). andThen x (taken (stationOf w s))) (judged-here k e))) h
+  frame-lent k exit v t y r e h =
+      comes-as _ (rule (shared (stationOf w s z)) (inner (stationOf w s z)) (calls.frame octets (length out))) w s z out exit v t y r
+      (sym (frame-judged (stationOf w s z) octets (length out) ∙ ap (λ (x : Checked Asking). andThen x (taken (stationOf w s z))) (judged-here k e))) h
 
   -- a reply to the car of a request can be sent
-  pub frame-ready : (c : CarAddress) (m : code.Request) → j ≡ judged.Taken c m → Ready (stationOf w s) c out
+  pub frame-ready : (c : CarAddress) (m : code.Request) → j ≡ judged.Taken c m → Ready (stationOf w s z) c out
   frame-ready c m t =
-      let shown = judges (stationOf w s .config) (stationOf w s .state) (length out) octets _ (judged-here (judged.Taken c m) t) in
-      record { good = shown .good; kept = meant w s; car = shown .car; room = shown .room }
+      let shown = judges (stationOf w s z .config) (stationOf w s z .state) (length out) octets _ (judged-here (judged.Taken c m) t) in
+      record { good = shown .good; kept = meant w s z; car = shown .car; room = shown .room }

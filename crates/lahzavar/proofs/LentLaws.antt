@@ -46,48 +46,52 @@ settled-means o r was is left next said stored kept e same = split (eqb (r .refu
     let no-call = refused-by o (λ k. f (ap (λ (y : Answered). y .refusal) said ∙ k)) in
     kept f ∙ sym (same (no-call .0) (no-call .1)))
 
-module _ (x : Call) (w s entry exit v t : List ℕ) (r : Answered) where
+-- the same arrays mean the same station
+same-station : {w s z v t y : List ℕ} → v ≡ w → t ≡ s → y ≡ z → stationOf v t y ≡ stationOf w s z
+same-station e f g = λ i. stationOf (e i) (f i) (g i)
+
+module _ (x : Call) (w s z entry exit v t y : List ℕ) (r : Answered) where
   -- by the station of the words
-  settled : (k : Stepped) → Answers (stationOf w s) x entry exit k → Settles k w s v t r → Lent x w s entry exit v t r
+  settled : (k : Stepped) → Answers (stationOf w s z) x entry exit k → Settles k w s z v t y r → Lent x w s z entry exit v t y r
   settled k a q =
-      let said : r ≡ answered (outcome (stationOf w s) x) = q .answer ∙ ap saidOf (a .answer) in
+      let said : r ≡ answered (outcome (stationOf w s z) x) = q .answer ∙ ap saidOf (a .answer) in
       record {
-        station = settled-means (outcome (stationOf w s) x) r (stationOf w s) (stationOf v t) (k .station) _ said (q .stored) (λ f. ap₂ stationOf (q .kept f .0) (q .kept f .1)) (a .station) (refused-station (stationOf w s) x);
+        station = settled-means (outcome (stationOf w s z) x) r (stationOf w s z) (stationOf v t y) (k .station) _ said (q .stored) (λ f. same-station (q .kept f .0) (q .kept f .1 .0) (q .kept f .1 .1)) (a .station) (refused-station (stationOf w s z) x);
         answer = said;
         octets = a .octets;
         kept = q .kept;
       }
 
   -- by the station that was unpacked
-  pub lent : (u : Station) (k : Stepped) → u ≡ stationOf w s → Answers u x entry exit k → Settles k w s v t r → Lent x w s entry exit v t r
+  pub lent : (u : Station) (k : Stepped) → u ≡ stationOf w s z → Answers u x entry exit k → Settles k w s z v t y r → Lent x w s z entry exit v t y r
   lent u k e a q = settled k (subst (λ (y : Station). Answers y x entry exit k) e a) q
 
 -- ---- the pilot state by its number
 
-module _ (n reading : ℕ) (w s : List ℕ) (r : Answered) where
+module _ (n reading : ℕ) (w s z : List ℕ) (r : Answered) where
   -- what the number names decides
-  abbrev By : Checked Pilot → (v t : List ℕ) → Type 0
-  By p v t = Leaves (pilotStep (stationOf w s) reading p) (pilotOutcome (stationOf w s) reading p) w s [] [] v t r
+  abbrev By : Checked Pilot → (v t y : List ℕ) → Type 0
+  By p v t y = Leaves (pilotStep (stationOf w s z) reading p) (pilotOutcome (stationOf w s z) reading p) w s z [] [] v t y r
 
   -- a number up to 5
-  pub pilot-lent : (v t : List ℕ) (p : Pilot) → p ≡ pilotOf n → n ≤ 5 → Lent (pilot p reading) w s [] [] v t r → PilotLent n reading w s [] [] v t r
-  pilot-lent v t p e h q =
+  pub pilot-lent : (v t y : List ℕ) (p : Pilot) → p ≡ pilotOf n → n ≤ 5 → Lent (pilot p reading) w s z [] [] v t y r → PilotLent n reading w s z [] [] v t y r
+  pilot-lent v t y p e h q =
       let b : pilotBy n ≡ yes p = ap (λ (x : Bool). check x 8 (yes (pilotOf n))) (le-leb n 5 h) ∙ ap yes (sym e) in
-      subst (λ (k : Checked Pilot). By k v t) (sym b) q
+      subst (λ (k : Checked Pilot). By k v t y) (sym b) q
 
   -- another number, by whether the configuration is good
-  refused : (g : Bool) → r ≡ saidOf (check g 16 (no 8)) → Leaves (stationOf w s) (check g 16 (no 8)) w s [] [] w s r
+  refused : (g : Bool) → r ≡ saidOf (check g 16 (no 8)) → Leaves (stationOf w s z) (check g 16 (no 8)) w s z [] [] w s z r
   unfolding splice joins
-  refused true e = record { station = refl; answer = e; octets = refl; kept = λ h. (refl, refl) }
-  refused false e = record { station = refl; answer = e; octets = refl; kept = λ h. (refl, refl) }
+  refused true e = record { station = refl; answer = e; octets = refl; kept = λ h. (refl, (refl, refl)) }
+  refused false e = record { station = refl; answer = e; octets = refl; kept = λ h. (refl, (refl, refl)) }
 
-  pub no-pilot-lent : (g : Bool) → g ≡ stationOf w s .config .good → 5 < n → r ≡ saidOf (check g 16 (no 8)) → PilotLent n reading w s [] [] w s r
+  pub no-pilot-lent : (g : Bool) → g ≡ stationOf w s z .config .good → 5 < n → r ≡ saidOf (check g 16 (no 8)) → PilotLent n reading w s z [] [] w s z r
   no-pilot-lent g c h e =
       let b : pilotBy n ≡ no 8 = ap (λ (x : Bool). check x 8 (yes (pilotOf n))) (lt-leb n 5 h) in
-      subst (λ (p : Checked Pilot). By p w s) (sym b) (refused (stationOf w s .config .good) (e ∙ ap (λ (x : Bool). saidOf (check x 16 (no 8))) c))
+      subst (λ (p : Checked Pilot). By p w s z) (sym b) (refused (stationOf w s z .config .good) (e ∙ ap (λ (x : Bool). saidOf (check x 16 (no 8))) c))
 
 -- ---- configuring
 
-pub configured-lent : (a : StationAddress) (m : ModemAddress) (nid : Nid) (nmk : Nmk) (exempt : Bool) (k : Configured) (v t : List ℕ) (r : Answered)
-    → rules.Configures a m nid nmk exempt k → stationOf v t ≡ k .station → r ≡ saidOf (answerOf (k .answer)) → Configures a m nid nmk exempt v t r
-configured-lent a m nid nmk exempt k v t r c e q = record { station = e ∙ c .station; answer = q ∙ ap saidOf (c .answer) }
+pub configured-lent : (a : StationAddress) (m : ModemAddress) (nid : Nid) (nmk : Nmk) (exempt : Bool) (k : Configured) (v t y : List ℕ) (r : Answered)
+    → rules.Configures a m nid nmk exempt k → stationOf v t y ≡ k .station → r ≡ saidOf (answerOf (k .answer)) → Configures a m nid nmk exempt v t y r
+configured-lent a m nid nmk exempt k v t y r c e q = record { station = e ∙ c .station; answer = q ∙ ap saidOf (c .answer) }

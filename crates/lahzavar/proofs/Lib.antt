@@ -2,3 +2,4 @@ pub mod LentLaws
 pub mod OctetsFit
 pub mod FrameLaws
 pub mod CarLaws
+pub mod TellLaws

@@ -31,7 +31,7 @@ use Rattle.rules.specs.Frames.{Kept, Change, putBack, startRule, soundRule, pro
 use Rattle.ends.specs.Lists.{All, only, joins}
 use Rattle.ends.specs.Outcomes.{Outcome, framesOf, joined, andThen, outcomeOf}
 use Rattle.rules.specs.Received.{RecordMessage, parmReq, start, sound, profile, rsp, validateFirst, validateSecond, Request, forRecord, matchReq, Received, received}
-use Rattle.rules.specs.Records.{sameCar, sameRun, isHeld, holds, mine, freePlaces, freed, added, counted}
+use Rattle.rules.specs.Records.{sameCar, sameRun, isHeld, holds, mine, freePlaces, freed, merged, added, counted}
 use Rattle.rules.specs.Replies.{Reply, parmCnf, matchCnf, report, confirmation, isReport, isConfirmation, mean, reportOf, messageTo, frameTo, framesTo}
 use Rattle.rules.specs.Rules.{rule, outcome}
 use Rattle.rules.specs.Sounds.{isIn}
@@ -202,7 +202,7 @@ sound-one k r (Counting t n b) = tt
 sound-one k r (Success t) = tt
 
 added-long : (xs vs : List ℕ) → length (added xs vs) ≡ length xs
-unfolding added
+unfolding merged
 added-long [] vs = refl
 added-long (x ∷ xs) [] = refl
 added-long (x ∷ xs) (v ∷ vs) = ap suc (added-long xs vs)
@@ -350,9 +350,9 @@ outcome-little (no n) h = omega arith
 outcome-little (yes d) h = h
 
 -- a call on a lent station writes no more than the least output
-pub octets-fit : (w s : List ℕ) (x : Call) → length (joined (framesOf (outcome (stationOf w s) x))) ≤ leastOutput
+pub octets-fit : (w s z : List ℕ) (x : Call) → length (joined (framesOf (outcome (stationOf w s z) x))) ≤ leastOutput
 unfolding outcome stationOf
-octets-fit w s x = outcome-little (rule (shared (stationOf w s)) (inner (stationOf w s)) x) (rule-little (shared (stationOf w s)) (inner (stationOf w s)) x (sums-few w s) (length-records w s))
+octets-fit w s z x = outcome-little (rule (shared (stationOf w s z)) (inner (stationOf w s z)) x) (rule-little (shared (stationOf w s z)) (inner (stationOf w s z)) x (sums-few w s z) (length-records w s z))
 
 said-exact : (o : Outcome) → length (joined (framesOf o)) ≤ leastOutput → answered o .octets ≡ length (joined (framesOf o))
 unfolding joins
@@ -360,5 +360,5 @@ said-exact (no n) h = refl
 said-exact (yes x) h = omega arith
 
 -- the answer's octets are their whole number
-pub octets-exact : (w s : List ℕ) (x : Call) → answered (outcome (stationOf w s) x) .octets ≡ length (joined (framesOf (outcome (stationOf w s) x)))
-octets-exact w s x = said-exact (outcome (stationOf w s) x) (octets-fit w s x)
+pub octets-exact : (w s z : List ℕ) (x : Call) → answered (outcome (stationOf w s z) x) .octets ≡ length (joined (framesOf (outcome (stationOf w s z) x)))
+octets-exact w s z x = said-exact (outcome (stationOf w s z) x) (octets-fit w s z x)

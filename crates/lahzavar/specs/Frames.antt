@@ -15,18 +15,18 @@ use Rattle.words.specs.Words.{stationOf}
 use Rattle.lahzavar.specs.declared.Answered.{Answered}
 use Rattle.lahzavar.specs.Lent.{Leaves}
 
--- words and sums from w and s to v and t, the output from entry to exit, and the answer r, where a frame's rule gives x
-abbrev pub Comes : Checked Done → (w s entry exit v t : List ℕ) → Answered → Type 0
-Comes x w s = Leaves (build (shared (stationOf w s)) (next (inner (stationOf w s)) x)) (outcomeOf x) w s
+-- words, sums and spread from w, s and z to v, t and y, the output from entry to exit, and the answer r, where a frame's rule gives x
+abbrev pub Comes : Checked Done → (w s z entry exit v t y : List ℕ) → Answered → Type 0
+Comes x w s z = Leaves (build (shared (stationOf w s z)) (next (inner (stationOf w s z)) x)) (outcomeOf x) w s z
 
 -- the same of the request m of car c
-abbrev pub Takes : CarAddress → Request → (w s entry exit v t : List ℕ) → Answered → Type 0
-Takes c m w s = Comes (stateRule (stationOf w s .config) (stationOf w s .state) (stationOf w s .records) c m) w s
+abbrev pub Takes : CarAddress → Request → (w s z entry exit v t y : List ℕ) → Answered → Type 0
+Takes c m w s z = Comes (stateRule (stationOf w s z .config) (stationOf w s z .state) (stationOf w s z .records) c m) w s z
 
 -- the same of what a rule leaves at car c's place i
-abbrev pub Puts : ℕ → CarAddress → Checked Kept → (w s entry exit v t : List ℕ) → Answered → Type 0
-Puts i c x w s = Comes (settled (stationOf w s) i c x) w s
+abbrev pub Puts : ℕ → CarAddress → Checked Kept → (w s z entry exit v t y : List ℕ) → Answered → Type 0
+Puts i c x w s z = Comes (settled (stationOf w s z) i c x) w s z
 
 -- the same of the record k at place i and some frames
-abbrev pub Stores : ℕ → Record → List (List ℕ) → (w s entry exit v t : List ℕ) → Answered → Type 0
-Stores i k fs w s = Comes (yes (done (stationOf w s .state) (set (stationOf w s .records) i k) fs Nothing)) w s
+abbrev pub Stores : ℕ → Record → List (List ℕ) → (w s z entry exit v t y : List ℕ) → Answered → Type 0
+Stores i k fs w s z = Comes (yes (done (stationOf w s z .state) (set (stationOf w s z .records) i k) fs Nothing)) w s z

@@ -20,20 +20,20 @@ use Rattle.words.specs.Words.{stationOf}
 use Rattle.lahzavar.specs.declared.Answered.{Answered}
 use Rattle.lahzavar.specs.Answers.{answered}
 
--- words and sums from w and s to v and t, the output from entry to exit, and the answer r, where the rules give the station `next` and the outcome o
-pub record Leaves (next : Station) (o : Outcome) (w s entry exit v t : List ℕ) (r : Answered) : Type 0 where
+-- words, sums and spread from w, s and z to v, t and y, the output from entry to exit, and the answer r, where the rules give the station `next` and the outcome o
+pub record Leaves (next : Station) (o : Outcome) (w s z entry exit v t y : List ℕ) (r : Answered) : Type 0 where
   -- they mean the station that the rules give
-  pub station : stationOf v t ≡ next
+  pub station : stationOf v t y ≡ next
   -- the answer says what the rules give
   pub answer : r ≡ answered o
   -- the output holds the outcome's frames from its first octet, and is else as it was
   pub octets : exit ≡ splice 0 (joined (framesOf o)) entry
   -- "each refusal changes neither station nor output": not a word is written
-  pub kept : (r .refusal ≡ 0 → ⊥) → (v ≡ w) × (t ≡ s)
+  pub kept : (r .refusal ≡ 0 → ⊥) → (v ≡ w) × ((t ≡ s) × (y ≡ z))
 
 -- the promise of a call x
-abbrev pub Lent : Call → (w s entry exit v t : List ℕ) → Answered → Type 0
-Lent x w s = Leaves (step (stationOf w s) x) (outcome (stationOf w s) x) w s
+abbrev pub Lent : Call → (w s z entry exit v t y : List ℕ) → Answered → Type 0
+Lent x w s z = Leaves (step (stationOf w s z) x) (outcome (stationOf w s z) x) w s z
 
 -- ---- the pilot state by its number
 
@@ -52,12 +52,12 @@ pilotOutcome s t (no n) = check (s .config .good) 16 (no n)
 pilotOutcome s t (yes p) = outcome s (pilot p t)
 
 -- the promise of the pilot call with the number k and the reading
-abbrev pub PilotLent : ℕ → ℕ → (w s entry exit v t : List ℕ) → Answered → Type 0
-PilotLent k reading w s = Leaves (pilotStep (stationOf w s) reading (pilotBy k)) (pilotOutcome (stationOf w s) reading (pilotBy k)) w s
+abbrev pub PilotLent : ℕ → ℕ → (w s z entry exit v t y : List ℕ) → Answered → Type 0
+PilotLent k reading w s z = Leaves (pilotStep (stationOf w s z) reading (pilotBy k)) (pilotOutcome (stationOf w s z) reading (pilotBy k)) w s z
 
 -- ---- configuring
 
--- the words and sums afterwards mean the station that configuring gives, a refused one too
-pub record Configures (address : StationAddress) (modem : ModemAddress) (nid : Nid) (nmk : Nmk) (exempt : Bool) (v t : List ℕ) (r : Answered) : Type 0 where
-  pub station : stationOf v t ≡ configured address modem nid nmk exempt
+-- the words, sums and spread afterwards mean the station that configuring gives, a refused one too
+pub record Configures (address : StationAddress) (modem : ModemAddress) (nid : Nid) (nmk : Nmk) (exempt : Bool) (v t y : List ℕ) (r : Answered) : Type 0 where
+  pub station : stationOf v t y ≡ configured address modem nid nmk exempt
   pub answer : r ≡ answered (configuring address modem nid)

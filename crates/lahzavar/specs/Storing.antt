@@ -8,8 +8,8 @@ use Rattle.words.specs.Words.{stationOf}
 use Rattle.lahzavar.specs.declared.Answered.{Answered}
 use Rattle.lahzavar.specs.Answers.{saidOf}
 
--- the words and sums from w and s to v and t: the station of an accepted call, or unchanged
-pub record Settles (x : Stepped) (w s v t : List ℕ) (r : Answered) : Type 0 where
+-- the words, sums and spread from w, s and z to v, t and y: the station of an accepted call, or unchanged
+pub record Settles (x : Stepped) (w s z v t y : List ℕ) (r : Answered) : Type 0 where
   pub answer : r ≡ saidOf (answerOf (x .answer))
-  pub stored : r .refusal ≡ 0 → stationOf v t ≡ x .station
-  pub kept : (r .refusal ≡ 0 → ⊥) → (v ≡ w) × (t ≡ s)
+  pub stored : r .refusal ≡ 0 → stationOf v t y ≡ x .station
+  pub kept : (r .refusal ≡ 0 → ⊥) → (v ≡ w) × ((t ≡ s) × (y ≡ z))

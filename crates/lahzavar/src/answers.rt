@@ -2,16 +2,21 @@
 use crate::Answered;
 use crate::Heard;
 use ends::Answer;
+use messages::GROUPS;
+use messages::GroupValues;
 use messages::Refusal;
 use rules::Configuration;
 use rules::HeardAnswer;
+use rules::Queried;
 ghost use mathlib.Core.Path.{_≡_};
 ghost use Prim.Native.Nat.{_^_, _%_};
 ghost use Rattle.messages.specs.Answers.{numberOf};
-ghost use Rattle.messages.specs.Reading.{no, check};
+ghost use Rattle.messages.specs.Reading.{Checked, no, check};
 ghost use Rattle.ends.specs.Answers.{answerOf};
-ghost use Rattle.rules.specs.Answers.{heardOf};
-ghost use Rattle.lahzavar.specs.Answers.{saidOf, heardAs};
+ghost use Rattle.rules.specs.Rules.{Told};
+ghost use Rattle.rules.specs.Answers as byValue;
+ghost use Rattle.lahzavar.specs.Answers as answers;
+ghost use Rattle.lahzavar.specs.Answers.{saidOf};
 
 // A wider number.
 pub(crate) fn wide(x: u32) -> u64
@@ -77,18 +82,33 @@ pub(crate) fn no_pilot(config: Configuration) -> Answered
     }
 }
 
-// The service query's answer.
-pub(crate) fn heard(answer: HeardAnswer) -> Heard
-    ensures { λ r. ⌜ r ≡ heardAs (heardOf answer) ⌝ }
+// A run of values stored in a lent array.
+fn fill(values: GroupValues, out: &mut GroupValues)
+    ensures { λ _. ⌜ now (out .exit) ≡ values ⌝ }
 {
+    octets::copy(&values, 0, GROUPS, out, 0);
+}
+
+// The service query's answer, with the spread in two lent arrays; a refusal leaves them.
+pub(crate) fn told(queried: Queried, least: &mut GroupValues, greatest: &mut GroupValues) -> Heard
+    ensures { λ r. ⌜ ((x : Checked Told) → byValue.Tells x queried → answers.Tells x (now (least .entry)) (now (greatest .entry)) (now (least .exit)) (now (greatest .exit)) r) ⌝ }
+{
+    let spread = queried.spread;
+    let answer = queried.heard;
+    let low = spread.least;
+    let high = spread.greatest;
     match answer {
         HeardAnswer::Refused(refusal) => Heard {
             refusal: messages::refusal_number(refusal),
             sounds: 0,
         },
-        HeardAnswer::Heard(sounds) => Heard {
-            refusal: 0,
-            sounds: sounds,
-        },
+        HeardAnswer::Heard(sounds) => {
+            fill(low, least);
+            fill(high, greatest);
+            Heard {
+                refusal: 0,
+                sounds: sounds,
+            }
+        }
     }
 }

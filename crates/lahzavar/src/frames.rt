@@ -24,6 +24,7 @@ use records::requests::Effect;
 use records::requests::Kept;
 use rules::Record;
 use rules::State;
+use words::StationSpread;
 use words::StationSums;
 use words::StationWords;
 ghost use mathlib.Core.List.{[], _∷_};
@@ -49,6 +50,7 @@ ghost use Rattle.lahzavar.specs.Lent.{Lent};
 fn sent(
     words: &mut StationWords,
     sums: &mut StationSums,
+    spread: &mut StationSpread,
     i: usize,
     r: Record,
     message: Message,
@@ -56,9 +58,9 @@ fn sent(
     out: &mut [u8],
 ) -> Answered
     requires { ⌜ GoodRecord r × Writable (messageOf message values) (length (now out)) ⌝ }
-    ensures { λ x. ⌜ Stores i r (writing.frame (messageOf message values) ∷ []) (now (words .entry)) (now (sums .entry)) (now (out .entry)) (now (out .exit)) (now (words .exit)) (now (sums .exit)) x ⌝ }
+    ensures { λ x. ⌜ Stores i r (writing.frame (messageOf message values) ∷ []) (now (words .entry)) (now (sums .entry)) (now (spread .entry)) (now (out .entry)) (now (out .exit)) (now (words .exit)) (now (sums .exit)) (now (spread .exit)) x ⌝ }
 {
-    words::put_record(words, sums, i, r);
+    words::put_record(words, sums, spread, i, r);
     let answer = ends::send(message, values, Indication::Nothing, out);
     answers::answered(answer)
 }
@@ -67,30 +69,41 @@ fn sent(
 fn admit(
     words: &mut StationWords,
     sums: &mut StationSums,
+    spread: &mut StationSpread,
     i: usize,
     car: CarAddress,
     run: RunId,
     out: &mut [u8],
 ) -> Answered
-    requires { ⌜ Ready (stationOf (now words) (now sums)) car (now out) ⌝ }
-    ensures { λ r. ⌜ Puts i car (keeps (fresh car run) (parmCnf run ∷ [])) (now (words .entry)) (now (sums .entry)) (now (out .entry)) (now (out .exit)) (now (words .exit)) (now (sums .exit)) r ⌝ }
+    requires { ⌜ Ready (stationOf (now words) (now sums) (now spread)) car (now out) ⌝ }
+    ensures { λ r. ⌜ Puts i car (keeps (fresh car run) (parmCnf run ∷ [])) (now (words .entry)) (now (sums .entry)) (now (spread .entry)) (now (out .entry)) (now (out .exit)) (now (words .exit)) (now (sums .exit)) (now (spread .exit)) r ⌝ }
 {
     let config = words::config_of(words);
     let r = changes::owned(car, changes::fresh(car, run));
     let message = reply::parm_cnf(config, car, run);
-    sent(words, sums, i, r, message, messages::no_groups(), out)
+    sent(
+        words,
+        sums,
+        spread,
+        i,
+        r,
+        message,
+        messages::no_groups(),
+        out,
+    )
 }
 
 // PARM.REQ: the car's own record restarts; else 9, 10, or the first free record.
 fn parm_req(
     words: &mut StationWords,
     sums: &mut StationSums,
+    spread: &mut StationSpread,
     car: CarAddress,
     run: RunId,
     out: &mut [u8],
 ) -> Answered
-    requires { ⌜ Ready (stationOf (now words) (now sums)) car (now out) ⌝ }
-    ensures { λ r. ⌜ Takes car (forRecord (parmReq run)) (now (words .entry)) (now (sums .entry)) (now (out .entry)) (now (out .exit)) (now (words .exit)) (now (sums .exit)) r ⌝ }
+    requires { ⌜ Ready (stationOf (now words) (now sums) (now spread)) car (now out) ⌝ }
+    ensures { λ r. ⌜ Takes car (forRecord (parmReq run)) (now (words .entry)) (now (sums .entry)) (now (spread .entry)) (now (out .entry)) (now (out .exit)) (now (words .exit)) (now (sums .exit)) (now (spread .exit)) r ⌝ }
 {
     let state = words::state_of(words);
     let State::Matching(left) = state else {
@@ -99,7 +112,7 @@ fn parm_req(
     let found = words::find(words, car);
     let admission = admission::place_for(found, left);
     match admission {
-        Admission::At(i) => admit(words, sums, i, car, run, out),
+        Admission::At(i) => admit(words, sums, spread, i, car, run, out),
         Admission::Refused(refusal) => answers::refused(refusal),
     }
 }
@@ -108,45 +121,47 @@ fn parm_req(
 fn report(
     words: &mut StationWords,
     sums: &mut StationSums,
+    spread: &mut StationSpread,
     i: usize,
     car: CarAddress,
     left: Record,
     out: &mut [u8],
 ) -> Answered
-    requires { ⌜ Ready (stationOf (now words) (now sums)) car (now out) × GoodRecord (owned car left) ⌝ }
-    ensures { λ r. ⌜ Puts i car (keeps left (reportOf left ∷ [])) (now (words .entry)) (now (sums .entry)) (now (out .entry)) (now (out .exit)) (now (words .exit)) (now (sums .exit)) r ⌝ }
+    requires { ⌜ Ready (stationOf (now words) (now sums) (now spread)) car (now out) × GoodRecord (owned car left) ⌝ }
+    ensures { λ r. ⌜ Puts i car (keeps left (reportOf left ∷ [])) (now (words .entry)) (now (sums .entry)) (now (spread .entry)) (now (out .entry)) (now (out .exit)) (now (words .exit)) (now (sums .exit)) (now (spread .exit)) r ⌝ }
 {
     let config = words::config_of(words);
     let r = changes::owned(car, left);
     let message = reply::report(config, car, r);
-    sent(words, sums, i, r, message, report::values(r), out)
+    sent(words, sums, spread, i, r, message, report::values(r), out)
 }
 
 // What a message at the record at place i comes to: a refusal, the record put back, or its report too.
 fn settle(
     words: &mut StationWords,
     sums: &mut StationSums,
+    spread: &mut StationSpread,
     i: usize,
     car: CarAddress,
     kept: Kept,
     out: &mut [u8],
 ) -> Answered
-    requires { ⌜ Ready (stationOf (now words) (now sums)) car (now out) × KeepsGood car (effectOf (kept .kept) (kept .effect)) ⌝ }
-    ensures { λ r. ⌜ Puts i car (effectOf (kept .kept) (kept .effect)) (now (words .entry)) (now (sums .entry)) (now (out .entry)) (now (out .exit)) (now (words .exit)) (now (sums .exit)) r ⌝ }
+    requires { ⌜ Ready (stationOf (now words) (now sums) (now spread)) car (now out) × KeepsGood car (effectOf (kept .kept) (kept .effect)) ⌝ }
+    ensures { λ r. ⌜ Puts i car (effectOf (kept .kept) (kept .effect)) (now (words .entry)) (now (sums .entry)) (now (spread .entry)) (now (out .entry)) (now (out .exit)) (now (words .exit)) (now (sums .exit)) (now (spread .exit)) r ⌝ }
 {
     let left = kept.kept;
     let effect = kept.effect;
     match effect {
         Effect::Refused(refusal) => answers::refused(refusal),
         Effect::NoReply => {
-            words::put_record(words, sums, i, changes::owned(car, left));
+            words::put_record(words, sums, spread, i, changes::owned(car, left));
             answers::answered(Answer::Done {
                 frames: 0,
                 octets: 0,
                 indication: Indication::Nothing,
             })
         }
-        Effect::Report => report(words, sums, i, car, left, out),
+        Effect::Report => report(words, sums, spread, i, car, left, out),
     }
 }
 
@@ -154,13 +169,14 @@ fn settle(
 fn at_own(
     words: &mut StationWords,
     sums: &mut StationSums,
+    spread: &mut StationSpread,
     car: CarAddress,
     message: OwnMessage,
     octets: &[u8],
     out: &mut [u8],
 ) -> Answered
-    requires { ⌜ Ready (stationOf (now words) (now sums)) car (now out) ⌝ }
-    ensures { λ r. ⌜ Takes car (forRecord (ownMessageOf message (groupsOf (readRules (now (octets .entry)))))) (now (words .entry)) (now (sums .entry)) (now (out .entry)) (now (out .exit)) (now (words .exit)) (now (sums .exit)) r ⌝ }
+    requires { ⌜ Ready (stationOf (now words) (now sums) (now spread)) car (now out) ⌝ }
+    ensures { λ r. ⌜ Takes car (forRecord (ownMessageOf message (groupsOf (readRules (now (octets .entry)))))) (now (words .entry)) (now (sums .entry)) (now (spread .entry)) (now (out .entry)) (now (out .exit)) (now (words .exit)) (now (sums .exit)) (now (spread .exit)) r ⌝ }
 {
     let state = words::state_of(words);
     let State::Matching(_) = state else {
@@ -170,33 +186,35 @@ fn at_own(
     let Found::Own(i) = found else {
         return answers::refused(Refusal::NoRecord);
     };
-    let r = words::record_at(words, sums, i);
+    let r = words::record_at(words, sums, spread, i);
     let kept = own_record::at_record(r, message, octets);
-    settle(words, sums, i, car, kept, out)
+    settle(words, sums, spread, i, car, kept, out)
 }
 
 // A frame on the whole station, by value.
 fn by_value(
     words: &mut StationWords,
     sums: &mut StationSums,
+    spread: &mut StationSpread,
     octets: &[u8],
     out: &mut [u8],
 ) -> Answered
-    ensures { λ r. ⌜ Lent (calls.frame (now (octets .entry)) (length (now (out .entry)))) (now (words .entry)) (now (sums .entry)) (now (out .entry)) (now (out .exit)) (now (words .exit)) (now (sums .exit)) r ⌝ }
+    ensures { λ r. ⌜ Lent (calls.frame (now (octets .entry)) (length (now (out .entry)))) (now (words .entry)) (now (sums .entry)) (now (spread .entry)) (now (out .entry)) (now (out .exit)) (now (words .exit)) (now (sums .exit)) (now (spread .exit)) r ⌝ }
 {
-    let station = words::unpack(words, sums);
+    let station = words::unpack(words, sums, spread);
     let stepped = station::frame(station, octets, out);
-    storing::settle(words, sums, stepped)
+    storing::settle(words, sums, spread, stepped)
 }
 
 // A frame was received: PARM.REQ and what concerns the car's own run touch one record; MATCH.REQ and both VALIDATE.REQ, which are rare, go through the whole station.
 pub(crate) fn receive(
     words: &mut StationWords,
     sums: &mut StationSums,
+    spread: &mut StationSpread,
     octets: &[u8],
     out: &mut [u8],
 ) -> Answered
-    ensures { λ r. ⌜ Lent (calls.frame (now (octets .entry)) (length (now (out .entry)))) (now (words .entry)) (now (sums .entry)) (now (out .entry)) (now (out .exit)) (now (words .exit)) (now (sums .exit)) r ⌝ }
+    ensures { λ r. ⌜ Lent (calls.frame (now (octets .entry)) (length (now (out .entry)))) (now (words .entry)) (now (sums .entry)) (now (spread .entry)) (now (out .entry)) (now (out .exit)) (now (words .exit)) (now (sums .exit)) (now (spread .exit)) r ⌝ }
 {
     let config = words::config_of(words);
     let state = words::state_of(words);
@@ -204,9 +222,9 @@ pub(crate) fn receive(
     match judged {
         Judged::Refused(refusal) => answers::refused(refusal),
         Judged::Taken { car, request } => match request {
-            Request::Parm(run) => parm_req(words, sums, car, run, out),
-            Request::Own(message) => at_own(words, sums, car, message, octets, out),
-            _ => by_value(words, sums, octets, out),
+            Request::Parm(run) => parm_req(words, sums, spread, car, run, out),
+            Request::Own(message) => at_own(words, sums, spread, car, message, octets, out),
+            _ => by_value(words, sums, spread, octets, out),
         },
     }
 }

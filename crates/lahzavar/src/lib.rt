@@ -5,11 +5,14 @@ mod frames;
 mod storing;
 
 use messages::CarAddress;
+use messages::GroupValues;
 use messages::ModemAddress;
 use messages::Nid;
 use messages::Nmk;
 use messages::StationAddress;
+use words::SPREAD;
 use words::SUMS;
+use words::StationSpread;
 use words::StationSums;
 use words::StationWords;
 use words::WORDS;
@@ -21,15 +24,15 @@ ghost use Prim.Native.Nat.{ℕ};
 ghost use lib.ListN.{length};
 ghost use Rattle.rules.specs.Calls as calls;
 ghost use Rattle.rules.specs.Constants.{leastOutput};
-ghost use Rattle.rules.specs.Rules.{soundsHeard};
-ghost use Rattle.words.specs.Words.{stateOf, recordsOf, heldCount, stationOf, wordCount, sumCount};
+ghost use Rattle.rules.specs.Rules.{query};
+ghost use Rattle.words.specs.Words.{stateOf, recordsOf, heldCount, stationOf, wordCount, sumCount, spreadCount};
 ghost use Rattle.words.specs.Written.{stateNumber};
 ghost use Rattle.words.specs.Wiped.{Wiped};
-ghost use Rattle.lahzavar.specs.Answers.{version, heardAs};
+ghost use Rattle.lahzavar.specs.Answers.{version, Tells};
 ghost use Rattle.lahzavar.specs.Lent.{Lent, PilotLent, Configures};
 
-// The version 0.4.0: 65536 times the major number, 256 times the minor, and the patch.
-const VERSION: u32 = 65536 * 0 + 256 * 4 + 0;
+// The version 0.5.0: 65536 times the major number, 256 times the minor, and the patch.
+const VERSION: u32 = 65536 * 0 + 256 * 5 + 0;
 
 // A call's answer: the refusal's number or 0; an indication (0 none, 1 no link, 2 link established); how many frames of how many octets in all.
 #[repr(C)]
@@ -52,6 +55,7 @@ pub struct Heard {
 pub extern "C" fn lahzavar_configure(
     words: &mut StationWords,
     sums: &mut StationSums,
+    spread: &mut StationSpread,
     address: u64,
     modem: u64,
     nid: u64,
@@ -59,11 +63,12 @@ pub extern "C" fn lahzavar_configure(
     last: u64,
     exempt: u32,
 ) -> Answered
-    ensures { λ r. ⌜ Configures (record { 0 = address }) (record { 0 = modem }) (record { 0 = nid }) (record { 0 = first; 1 = last }) (not (eqb exempt 0)) (now (words .exit)) (now (sums .exit)) r ⌝ }
+    ensures { λ r. ⌜ Configures (record { 0 = address }) (record { 0 = modem }) (record { 0 = nid }) (record { 0 = first; 1 = last }) (not (eqb exempt 0)) (now (words .exit)) (now (sums .exit)) (now (spread .exit)) r ⌝ }
 {
     storing::configure(
         words,
         sums,
+        spread,
         StationAddress(address),
         ModemAddress(modem),
         Nid(nid),
@@ -77,12 +82,13 @@ pub extern "C" fn lahzavar_configure(
 pub extern "C" fn lahzavar_frame(
     words: &mut StationWords,
     sums: &mut StationSums,
+    spread: &mut StationSpread,
     octets: &[u8],
     out: &mut [u8],
 ) -> Answered
-    ensures { λ r. ⌜ Lent (calls.frame (now (octets .entry)) (length (now (out .entry)))) (now (words .entry)) (now (sums .entry)) (now (out .entry)) (now (out .exit)) (now (words .exit)) (now (sums .exit)) r ⌝ }
+    ensures { λ r. ⌜ Lent (calls.frame (now (octets .entry)) (length (now (out .entry)))) (now (words .entry)) (now (sums .entry)) (now (spread .entry)) (now (out .entry)) (now (out .exit)) (now (words .exit)) (now (sums .exit)) (now (spread .exit)) r ⌝ }
 {
-    frames::receive(words, sums, octets, out)
+    frames::receive(words, sums, spread, octets, out)
 }
 
 // A tick: the clock reads so much. The reports stand back to back from the first octet of the output.
@@ -90,14 +96,15 @@ pub extern "C" fn lahzavar_frame(
 pub extern "C" fn lahzavar_tick(
     words: &mut StationWords,
     sums: &mut StationSums,
+    spread: &mut StationSpread,
     reading: u32,
     out: &mut [u8],
 ) -> Answered
-    ensures { λ r. ⌜ Lent (calls.tick reading (length (now (out .entry)))) (now (words .entry)) (now (sums .entry)) (now (out .entry)) (now (out .exit)) (now (words .exit)) (now (sums .exit)) r ⌝ }
+    ensures { λ r. ⌜ Lent (calls.tick reading (length (now (out .entry)))) (now (words .entry)) (now (sums .entry)) (now (spread .entry)) (now (out .entry)) (now (out .exit)) (now (words .exit)) (now (sums .exit)) (now (spread .exit)) r ⌝ }
 {
-    let station = words::unpack(words, sums);
+    let station = words::unpack(words, sums, spread);
     let stepped = station::tick(station, reading, out);
-    storing::settle(words, sums, stepped)
+    storing::settle(words, sums, spread, stepped)
 }
 
 // The control pilot is at a state, 0 to 5 for A to F, at a clock reading.
@@ -105,54 +112,74 @@ pub extern "C" fn lahzavar_tick(
 pub extern "C" fn lahzavar_pilot(
     words: &mut StationWords,
     sums: &mut StationSums,
+    spread: &mut StationSpread,
     pilot: u32,
     reading: u32,
 ) -> Answered
-    ensures { λ r. ⌜ PilotLent pilot reading (now (words .entry)) (now (sums .entry)) [] [] (now (words .exit)) (now (sums .exit)) r ⌝ }
+    ensures { λ r. ⌜ PilotLent pilot reading (now (words .entry)) (now (sums .entry)) (now (spread .entry)) [] [] (now (words .exit)) (now (sums .exit)) (now (spread .exit)) r ⌝ }
 {
     if 5 < pilot {
         return answers::no_pilot(words::config_of(words));
     }
-    let station = words::unpack(words, sums);
+    let station = words::unpack(words, sums, spread);
     let stepped = station::pilot(station, rules::pilot_of(answers::wide(pilot)), reading);
-    storing::settle(words, sums, stepped)
+    storing::settle(words, sums, spread, stepped)
 }
 
 // Matching is terminated.
 #[no_mangle]
-pub extern "C" fn lahzavar_terminate(words: &mut StationWords, sums: &mut StationSums) -> Answered
-    ensures { λ r. ⌜ Lent calls.terminate (now (words .entry)) (now (sums .entry)) [] [] (now (words .exit)) (now (sums .exit)) r ⌝ }
+pub extern "C" fn lahzavar_terminate(
+    words: &mut StationWords,
+    sums: &mut StationSums,
+    spread: &mut StationSpread,
+) -> Answered
+    ensures { λ r. ⌜ Lent calls.terminate (now (words .entry)) (now (sums .entry)) (now (spread .entry)) [] [] (now (words .exit)) (now (sums .exit)) (now (spread .exit)) r ⌝ }
 {
-    let station = words::unpack(words, sums);
+    let station = words::unpack(words, sums, spread);
     let stepped = station::terminate(station);
-    storing::settle(words, sums, stepped)
+    storing::settle(words, sums, spread, stepped)
 }
 
 // The link to the car that joins is up.
 #[no_mangle]
-pub extern "C" fn lahzavar_link_up(words: &mut StationWords, sums: &mut StationSums) -> Answered
-    ensures { λ r. ⌜ Lent calls.linkUp (now (words .entry)) (now (sums .entry)) [] [] (now (words .exit)) (now (sums .exit)) r ⌝ }
+pub extern "C" fn lahzavar_link_up(
+    words: &mut StationWords,
+    sums: &mut StationSums,
+    spread: &mut StationSpread,
+) -> Answered
+    ensures { λ r. ⌜ Lent calls.linkUp (now (words .entry)) (now (sums .entry)) (now (spread .entry)) [] [] (now (words .exit)) (now (sums .exit)) (now (spread .exit)) r ⌝ }
 {
-    let station = words::unpack(words, sums);
+    let station = words::unpack(words, sums, spread);
     let stepped = station::link_up(station);
-    storing::settle(words, sums, stepped)
+    storing::settle(words, sums, spread, stepped)
 }
 
 // Wipes a station, its key too: it answers 16 to everything.
 #[no_mangle]
-pub extern "C" fn lahzavar_wipe(words: &mut StationWords, sums: &mut StationSums)
-    ensures { λ _. ⌜ Wiped (now (words .exit)) (now (sums .exit)) ⌝ }
+pub extern "C" fn lahzavar_wipe(
+    words: &mut StationWords,
+    sums: &mut StationSums,
+    spread: &mut StationSpread,
+)
+    ensures { λ _. ⌜ Wiped (now (words .exit)) (now (sums .exit)) (now (spread .exit)) ⌝ }
 {
-    words::wipe(words, sums);
+    words::wipe(words, sums, spread);
 }
 
-// The service query: how many sounds a car's run has heard.
+// The service query: how many sounds a car's run has heard, and the least and greatest value of each group, which fill the lent arrays; a refusal leaves them.
 #[no_mangle]
-pub extern "C" fn lahzavar_sounds_heard(words: &StationWords, sums: &StationSums, car: u64) -> Heard
-    ensures { λ r. ⌜ r ≡ heardAs (soundsHeard (stationOf (now (words .entry)) (now (sums .entry))) (record { 0 = car })) ⌝ }
+pub extern "C" fn lahzavar_query(
+    words: &StationWords,
+    sums: &StationSums,
+    spread: &StationSpread,
+    car: u64,
+    least: &mut GroupValues,
+    greatest: &mut GroupValues,
+) -> Heard
+    ensures { λ r. ⌜ Tells (query (stationOf (now (words .entry)) (now (sums .entry)) (now (spread .entry))) (record { 0 = car })) (now (least .entry)) (now (greatest .entry)) (now (least .exit)) (now (greatest .exit)) r ⌝ }
 {
-    let station = words::unpack(words, sums);
-    answers::heard(rules::sounds_heard(station, CarAddress(car)))
+    let station = words::unpack(words, sums, spread);
+    answers::told(rules::query(station, CarAddress(car)), least, greatest)
 }
 
 // The state: 0 Unmatched, 1 Matching, 2 Joining, 3 Matched.
@@ -166,7 +193,7 @@ pub extern "C" fn lahzavar_state(words: &StationWords) -> u32
 // How many records are held.
 #[no_mangle]
 pub extern "C" fn lahzavar_records_held(words: &StationWords) -> u32
-    ensures { λ r. ⌜ ((sums : List ℕ) → r ≡ heldCount (recordsOf (now (words .entry)) sums)) ⌝ }
+    ensures { λ r. ⌜ ((sums spread : List ℕ) → r ≡ heldCount (recordsOf (now (words .entry)) sums spread)) ⌝ }
 {
     words::held_count(words)
 }
@@ -193,6 +220,14 @@ pub extern "C" fn lahzavar_sums() -> u32
     ensures { λ r. ⌜ r ≡ sumCount ⌝ }
 {
     SUMS as u32
+}
+
+// How many octets the spread of a station has.
+#[no_mangle]
+pub extern "C" fn lahzavar_spread() -> u32
+    ensures { λ r. ⌜ r ≡ spreadCount ⌝ }
+{
+    SPREAD as u32
 }
 
 // The least output that a frame or a tick asks for.

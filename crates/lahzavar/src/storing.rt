@@ -6,6 +6,7 @@ use messages::Nid;
 use messages::Nmk;
 use messages::StationAddress;
 use rules::Stepped;
+use words::StationSpread;
 use words::StationSums;
 use words::StationWords;
 ghost use Rattle.rules.specs.Invariant.{Invariant};
@@ -13,9 +14,14 @@ ghost use Rattle.lahzavar.specs.Lent.{Configures};
 ghost use Rattle.lahzavar.specs.Storing.{Settles};
 
 // Stores the station of an accepted call; of a refused one, nothing.
-pub(crate) fn settle(words: &mut StationWords, sums: &mut StationSums, stepped: Stepped) -> Answered
+pub(crate) fn settle(
+    words: &mut StationWords,
+    sums: &mut StationSums,
+    spread: &mut StationSpread,
+    stepped: Stepped,
+) -> Answered
     requires { ⌜ Invariant (stepped .station) ⌝ }
-    ensures { λ r. ⌜ Settles stepped (now (words .entry)) (now (sums .entry)) (now (words .exit)) (now (sums .exit)) r ⌝ }
+    ensures { λ r. ⌜ Settles stepped (now (words .entry)) (now (sums .entry)) (now (spread .entry)) (now (words .exit)) (now (sums .exit)) (now (spread .exit)) r ⌝ }
 {
     let answer = stepped.answer;
     let station = stepped.station;
@@ -23,7 +29,7 @@ pub(crate) fn settle(words: &mut StationWords, sums: &mut StationSums, stepped: 
     if said.refusal != 0 {
         return said;
     }
-    words::pack(station, words, sums);
+    words::pack(station, words, sums, spread);
     said
 }
 
@@ -31,17 +37,18 @@ pub(crate) fn settle(words: &mut StationWords, sums: &mut StationSums, stepped: 
 pub(crate) fn configure(
     words: &mut StationWords,
     sums: &mut StationSums,
+    spread: &mut StationSpread,
     address: StationAddress,
     modem: ModemAddress,
     nid: Nid,
     nmk: Nmk,
     exempt: bool,
 ) -> Answered
-    ensures { λ r. ⌜ Configures address modem nid nmk exempt (now (words .exit)) (now (sums .exit)) r ⌝ }
+    ensures { λ r. ⌜ Configures address modem nid nmk exempt (now (words .exit)) (now (sums .exit)) (now (spread .exit)) r ⌝ }
 {
     let made = rules::configure(address, modem, nid, nmk, exempt);
     let station = made.station;
     let answer = made.answer;
-    words::pack(station, words, sums);
+    words::pack(station, words, sums, spread);
     answers::answered(answer)
 }

@@ -1,12 +1,18 @@
--- The steps of the loops over runs of words and sums.
+-- The steps of the loop over runs of sums, and a spread out of its octets and into them.
 use Prim.Native.Nat.{ℕ, _+_, _≤_, _<_}
 use mathlib.Core.Path.{_≡_, refl, sym, ap, ap₂, _∙_}
 use mathlib.Core.List.{List, [], _∷_, _++_, map}
+use borrow.Rule.Slice.PartMut.{putMid}
 use native.Mathlib.Omega.{arith}
 use native.Mathlib.Numerals.{add-one}
-use lib.ListN.{length, getD, take, drop, set, length-set, length-drop}
-use lib.Seq.{take-suc, take-suc-set, take-all, getD-drop}
+use lib.ListN.{length, getD, take, drop, set, length-set, length-take, length-drop, length-append}
+use lib.Seq.{sets, take-suc, take-suc-set, take-all, getD-drop, drop-drop, take-at, drop-at}
 use Rattle.octets.specs.Octets.{part}
+use Rattle.octets.proofs.OctetLaws.{part-take, sets-append, sets-whole, sets-lent}
+use Rattle.messages.specs.Table.{groupCount}
+use Rattle.rules.specs.declared.Spread.{Spread}
+use Rattle.words.specs.Words.{spreadWidth, spreadOf}
+use Rattle.words.specs.Written.{spreadOctets}
 
 -- ---- a copy out of a slice, each element changed
 
@@ -41,3 +47,58 @@ module _ (f : ℕ → ℕ) where
   changed-end s at n r i c h =
       let e : i ≡ n = omega (arith, c .turns) in
       sym (take-all i r (omega (arith, c .size))) ∙ c .done ∙ ap (λ (k : ℕ). map f (part s at k)) e
+
+-- ---- a spread
+
+-- values copied over a whole array
+pub groups-copied : (x l r : List ℕ) (at : ℕ) → at + groupCount ≤ length x → length l ≡ groupCount → r ≡ sets l 0 (part x at groupCount) → r ≡ part x at groupCount
+groups-copied x l r at h k e =
+    let m : length (part x at groupCount) ≡ groupCount = rw (length-take, length-drop) (omega arith) in
+    e ∙ sets-whole (part x at groupCount) l (m ∙ sym k)
+
+-- the same out of a part of n octets
+pub groups-read : (x l r : List ℕ) (at n : ℕ) → n ≡ groupCount → at + groupCount ≤ length x → length l ≡ groupCount → r ≡ sets l 0 (part (take n (drop at x)) 0 groupCount)
+    → r ≡ part x at groupCount
+groups-read x l r at n m h k e = groups-copied x l r at h k (e ∙ ap (sets l 0) (part-take n (drop at x) 0 groupCount (omega arith)))
+
+-- values stored in a part of n octets
+pub groups-stored : (v x w : List ℕ) (at n : ℕ) → n ≡ groupCount → at + groupCount ≤ length x → length v ≡ groupCount → w ≡ sets (take n (drop at x)) 0 (part v 0 groupCount)
+    → putMid at n x w ≡ sets x at v
+groups-stored v x w at n m h k e =
+    ap (putMid at n x) (e ∙ ap (sets (take n (drop at x)) 0) (take-all groupCount v (omega arith)))
+    ∙ sets-lent at n x v (omega arith) (omega arith)
+
+-- read in its two parts
+pub spread-read : (x : List ℕ) (at : ℕ) (r : Spread) → r .least ≡ part x at groupCount → r .greatest ≡ part x (at + groupCount) groupCount → r ≡ spreadOf (part x at spreadWidth)
+unfolding spreadOf
+spread-read x at r el eg =
+    let l : r .least ≡ part (part x at spreadWidth) 0 groupCount = el ∙ sym (part-take spreadWidth (drop at x) 0 groupCount (omega arith)) in
+    let g : r .greatest ≡ part (part x at spreadWidth) groupCount groupCount =
+    eg ∙ ap (take groupCount) (sym (drop-drop groupCount at x)) ∙ sym (part-take spreadWidth (drop at x) groupCount groupCount (omega arith)) in
+    λ i. record { least = l i; greatest = g i }
+
+-- a spread with a value for each group
+pub record Sized (r : Spread) : Type 0 where
+  pub least : length (r .least) ≡ groupCount
+  pub greatest : length (r .greatest) ≡ groupCount
+
+-- stored in its two parts
+pub spread-stored : (r : Spread) (x y z : List ℕ) (at : ℕ) → Sized r → y ≡ sets x at (r .least) → z ≡ sets y (at + groupCount) (r .greatest) → z ≡ sets x at (spreadOctets r)
+spread-stored r x y z at k ey ez =
+    ez
+    ∙ ap (λ (o : List ℕ). sets o (at + groupCount) (r .greatest)) ey
+    ∙ ap (λ (n : ℕ). sets (sets x at (r .least)) (at + n) (r .greatest)) (sym (k .least))
+    ∙ sym (sets-append (r .least) (r .greatest) x at)
+
+-- as many octets as it has values
+pub length-spread : (r : Spread) → Sized r → length (spreadOctets r) ≡ spreadWidth
+length-spread r k = rw length-append (omega (arith, k .least, k .greatest))
+
+-- a spread's octets are that spread
+pub spread-back : (r : Spread) → Sized r → spreadOf (spreadOctets r) ≡ r
+unfolding spreadOf
+spread-back r k =
+    let l : part (spreadOctets r) 0 groupCount ≡ r .least = take-at (r .least) (r .greatest) groupCount (k .least) in
+    let g : part (spreadOctets r) groupCount groupCount ≡ r .greatest =
+    ap (take groupCount) (drop-at (r .least) (r .greatest) groupCount (k .least)) ∙ take-all groupCount (r .greatest) (omega (arith, k .greatest)) in
+    λ i. record { least = l i; greatest = g i }

@@ -19,11 +19,12 @@ use Rattle.rules.specs.declared.Station.{Station}
 use Rattle.rules.specs.Constants.{recordCount}
 use Rattle.rules.specs.Invariant.{GoodRecord, GoodConfiguration}
 use Rattle.rules.specs.Rules.{isGood}
-use Rattle.words.specs.Words.{headCount, wordCount, sumCount, recordOf, recordsOf, configOf, stateBy, stateOf, stationOf, withRecords}
+use Rattle.words.specs.Words.{headCount, wordCount, sumCount, spreadWidth, spreadCount, recordsOf, configOf, stateBy, stateOf, stationOf, withRecords}
 use Rattle.rules.specs.Numbers.{pilotOf}
 use Rattle.ends.specs.Words.{flagOf}
-use Rattle.words.specs.Written.{stateNumber, stateTime, stateCar, stateRun, pilotNumber, wordsOf, headOf}
+use Rattle.words.specs.Written.{stateNumber, stateTime, stateCar, stateRun, pilotNumber, wordsOf, spreadOctets, headOf}
 use Rattle.ends.proofs.RunLaws.{getD-before, getD-front}
+use Rattle.words.proofs.CopyLaws.{Sized, length-spread}
 use Rattle.words.proofs.RecordWords.{place, length-records, record-put, flag-back, record-back}
 use Rattle.ends.proofs.WordLaws.{flag-and}
 
@@ -42,29 +43,32 @@ module _ (v w : List ℕ) (e : SameHead v w) where
   state-same = rw (e 6 (omega arith), e 7 (omega arith), e 8 (omega arith), e 9 (omega arith))
 
   -- they mean the same station but for the records
-  pub station-same : (s t : List ℕ) (rs : List Record) → recordsOf v s ≡ rs → stationOf v s ≡ withRecords (stationOf w t) rs
+  pub station-same : (s x t y : List ℕ) (rs : List Record) → recordsOf v s x ≡ rs → stationOf v s x ≡ withRecords (stationOf w t y) rs
   unfolding stationOf
-  station-same s t rs q =
+  station-same s x t y rs q =
       let p : pilotOf (getD v 10 0) ≡ pilotOf (getD w 10 0) = ap pilotOf (e 10 (omega arith)) in
       let k : getD v 11 0 % 2 ^ 32 ≡ getD w 11 0 % 2 ^ 32 = ap (λ (n : ℕ). n % 2 ^ 32) (e 11 (omega arith)) in
       λ i. record { config = config-same i; state = state-same i; pilot = p i; clock = k i; records = q i }
 
 -- ---- one record stored
 
-module _ (w s : List ℕ) (i : ℕ) (r : Record) (g : GoodRecord r) where
+module _ (w s x : List ℕ) (i : ℕ) (r : Record) (g : GoodRecord r) where
   -- inside
-  pub stored : i < recordCount → length w ≡ wordCount → length s ≡ sumCount → (v t : List ℕ) → v ≡ wordsOf r → t ≡ r .sums → length t ≡ groupCount
-      → stationOf (sets w (place i) v) (sets s (groupCount * i) t) ≡ withRecords (stationOf w s) (set (recordsOf w s) i r)
+  pub stored : i < recordCount → length w ≡ wordCount → length s ≡ sumCount → length x ≡ spreadCount → length (r .sums) ≡ groupCount → Sized (r .spread)
+      → (v t y : List ℕ) → v ≡ sets w (place i) (wordsOf r) → t ≡ sets s (groupCount * i) (r .sums) → y ≡ sets x (spreadWidth * i) (spreadOctets (r .spread))
+      → stationOf v t y ≡ withRecords (stationOf w s x) (set (recordsOf w s x) i r)
   unfolding wordsOf
-  stored h lw ls v t ev et lt =
-      station-same (sets w (place i) v) w (λ j l. getD-before v w (place i) j 0 (omega arith)) (sets s (groupCount * i) t) s (set (recordsOf w s) i r)
-      (record-put w s v t i h lw ls (ap length ev) lt
-      ∙ ap (set (recordsOf w s) i) (ap₂ recordOf ev et ∙ record-back r g))
+  stored h lw ls lx k z v t y ev et ey =
+      station-same v w (λ j l. ap (λ (u : List ℕ). getD u j 0) ev ∙ getD-before (wordsOf r) w (place i) j 0 (omega arith)) t y s x (set (recordsOf w s x) i r)
+      (ap₂ (λ (a b : List ℕ). recordsOf a b y) ev et
+      ∙ ap (recordsOf (sets w (place i) (wordsOf r)) (sets s (groupCount * i) (r .sums))) ey
+      ∙ record-put w s x (wordsOf r) (r .sums) (spreadOctets (r .spread)) i h lw ls lx refl k (length-spread (r .spread) z)
+      ∙ ap (set (recordsOf w s x) i) (record-back r g z))
 
   -- past the last place
-  pub not-stored : recordCount ≤ i → stationOf w s ≡ withRecords (stationOf w s) (set (recordsOf w s) i r)
+  pub not-stored : recordCount ≤ i → stationOf w s x ≡ withRecords (stationOf w s x) (set (recordsOf w s x) i r)
   unfolding stationOf
-  not-stored h = ap (withRecords (stationOf w s)) (sym (set-out (recordsOf w s) i r (rw (length-records w s) h)))
+  not-stored h = ap (withRecords (stationOf w s x)) (sym (set-out (recordsOf w s x) i r (rw (length-records w s x) h)))
 
 -- ---- a station's own words
 
@@ -88,29 +92,29 @@ pilot-back E = refl
 pilot-back F = refl
 
 -- the station of its head and its records
-pub station-back : (x : Station) (s : List ℕ) → GoodConfiguration (x .config) → stateTime (x .state) < 2 ^ 32 → x .clock < 2 ^ 32
-    → withRecords (stationOf (headOf (x .config) (x .state) (x .pilot) (x .clock)) s) (x .records) ≡ x
+pub station-back : (z : Station) (s x : List ℕ) → GoodConfiguration (z .config) → stateTime (z .state) < 2 ^ 32 → z .clock < 2 ^ 32
+    → withRecords (stationOf (headOf (z .config) (z .state) (z .pilot) (z .clock)) s x) (z .records) ≡ z
 unfolding stationOf configOf headOf
-station-back x s g h k =
-    let o = x .config in
+station-back z s x g h k =
+    let o = z .config in
     let b : eqb (flagOf (o .good)) 1 && isGood (o .address) (o .modem) (o .nid) ≡ o .good = flag-and (o .good) (isGood (o .address) (o .modem) (o .nid)) (good-back o g) in
     let f : eqb (flagOf (o .exempt)) 1 ≡ o .exempt = flag-back (o .exempt) in
-    let e : x .clock % 2 ^ 32 ≡ x .clock = omega arith in
+    let e : z .clock % 2 ^ 32 ≡ z .clock = omega arith in
     λ i. record {
       config = record { good = b i; address = o .address; modem = o .modem; nid = o .nid; nmk = o .nmk; exempt = f i };
-      state = state-back (x .state) h i;
-      pilot = pilot-back (x .pilot) i;
+      state = state-back (z .state) h i;
+      pilot = pilot-back (z .pilot) i;
       clock = e i;
-      records = x .records;
+      records = z .records;
     }
 
 -- with that head stored, and then its records
-pub packed : (x : Station) (w s v : List ℕ) (y : Station) → headCount ≤ length w → GoodConfiguration (x .config) → stateTime (x .state) < 2 ^ 32 → x .clock < 2 ^ 32
-    → v ≡ sets w 0 (headOf (x .config) (x .state) (x .pilot) (x .clock)) → y ≡ withRecords (stationOf v s) (x .records) → y ≡ x
+pub packed : (z : Station) (w s x v : List ℕ) (y : Station) → headCount ≤ length w → GoodConfiguration (z .config) → stateTime (z .state) < 2 ^ 32 → z .clock < 2 ^ 32
+    → v ≡ sets w 0 (headOf (z .config) (z .state) (z .pilot) (z .clock)) → y ≡ withRecords (stationOf v s x) (z .records) → y ≡ z
 unfolding headOf
-packed x w s v y l g h k e f =
-    let head = headOf (x .config) (x .state) (x .pilot) (x .clock) in
+packed z w s x v y l g h k e f =
+    let head = headOf (z .config) (z .state) (z .pilot) (z .clock) in
     let same : SameHead v head = λ j b. ap (λ (u : List ℕ). getD u j 0) e ∙ getD-front head w j 0 l b in
     f
-    ∙ ap (λ (z : Station). withRecords z (x .records)) (station-same v head same s s (recordsOf v s) refl)
-    ∙ station-back x s g h k
+    ∙ ap (λ (u : Station). withRecords u (z .records)) (station-same v head same s x s x (recordsOf v s x) refl)
+    ∙ station-back z s x g h k

@@ -1,4 +1,4 @@
--- Any words and sums mean a station that every call can take.
+-- Any words, sums and spread mean a station that every call can take.
 use Prim.Native.Nat.{ℕ, zero, suc, _*_, _^_, _≤_, _%_}
 use mathlib.Core.Path.{_≡_, refl, sym, subst}
 use mathlib.Core.Bool.{Bool, true, false}
@@ -19,7 +19,7 @@ use Rattle.rules.specs.Records.{isHeld}
 use Rattle.rules.specs.Rules.{isGood, freeRecord, configured}
 use Rattle.rules.proofs.InvariantKept.{configured-keeps}
 use Rattle.ends.specs.Words.{timeWithin, runs}
-use Rattle.words.specs.Words.{headCount, width, countingOf, phasesOf, phaseOf, reportedOf, profilesOf, sumsOf, recordOf, recordsOf, configOf, stateOf, stationOf}
+use Rattle.words.specs.Words.{countingOf, phasesOf, phaseOf, reportedOf, profilesOf, sumsOf, recordOf, wordRuns, sumRuns, spreadRuns, given, recordsOf, configOf, stateOf, stationOf}
 use Rattle.rules.specs.Numbers.{pilotOf}
 
 -- what holds of all of a list and of what stands past it
@@ -56,24 +56,25 @@ phase-limited : (k t n m : ℕ) → Suits m (phaseOf k t n)
 unfolding phaseOf
 phase-limited k t n m = all-getD (Suits m) (phasesOf t n) k (Asked (timeWithin askedTime t)) (phases-limited t n m) (asked-limited t m)
 
-pub record-meant : (w s : List ℕ) → GoodRecord (recordOf w s)
+pub record-meant : (w s x : List ℕ) → GoodRecord (recordOf w s x)
 unfolding recordOf isHeld
-record-meant w s = record {
+record-meant w s x = record {
   sums = λ i. sums-limited _ s i;
   phase = phase-limited (getD w 3 0) (getD w 4 0) (getD w 5 0) (getD w 7 0);
   heard = omega arith;
   car = λ h. and-right (eqb (getD w 0 0) 1) (isUnicast (getD w 1 0)) h;
 }
 
-all-zip : (xs ys : List (List ℕ)) → All GoodRecord (zipWith recordOf xs ys)
+all-zip : (xs ys zs : List (List ℕ)) → All GoodRecord (zipWith given (zipWith recordOf xs ys) zs)
 unfolding zipWith
-all-zip [] ys = tt
-all-zip (x ∷ xs) [] = tt
-all-zip (x ∷ xs) (y ∷ ys) = (record-meant x y, all-zip xs ys)
+all-zip [] ys zs = tt
+all-zip (x ∷ xs) [] zs = tt
+all-zip (x ∷ xs) (y ∷ ys) [] = tt
+all-zip (x ∷ xs) (y ∷ ys) (z ∷ zs) = (record-meant x y z, all-zip xs ys zs)
 
-pub records-meant : (w s : List ℕ) → All GoodRecord (recordsOf w s)
+pub records-meant : (w s x : List ℕ) → All GoodRecord (recordsOf w s x)
 unfolding recordsOf
-records-meant w s = all-zip (runs recordCount width (drop headCount w)) (runs recordCount groupCount s)
+records-meant w s x = all-zip (wordRuns w) (sumRuns s) (spreadRuns x)
 
 -- ---- the configuration and the station
 
@@ -92,17 +93,17 @@ config-meant w =
       nid = λ g. k .nid (and-right t u g);
     }
 
-pub meant : (w s : List ℕ) → Invariant (stationOf w s)
+pub meant : (w s x : List ℕ) → Invariant (stationOf w s x)
 unfolding stationOf
-meant w s = record { config = config-meant w; records = records-meant w s }
+meant w s x = record { config = config-meant w; records = records-meant w s x }
 
 -- a station read part by part
-pub unpacked : (w s : List ℕ) (x : Station) → x .config ≡ configOf w → x .state ≡ stateOf w → x .pilot ≡ pilotOf (getD w 10 0) → x .clock ≡ getD w 11 0 % 2 ^ 32 → x .records ≡ recordsOf w s
-    → (x ≡ stationOf w s) × Invariant x
+pub unpacked : (w s x : List ℕ) (z : Station) → z .config ≡ configOf w → z .state ≡ stateOf w → z .pilot ≡ pilotOf (getD w 10 0) → z .clock ≡ getD w 11 0 % 2 ^ 32 → z .records ≡ recordsOf w s x
+    → (z ≡ stationOf w s x) × Invariant z
 unfolding stationOf
-unpacked w s x a b c d e =
-    let same : x ≡ stationOf w s = λ i. record { config = a i; state = b i; pilot = c i; clock = d i; records = e i } in
-    (same, subst Invariant (sym same) (meant w s))
+unpacked w s x z a b c d e =
+    let same : z ≡ stationOf w s x = λ i. record { config = a i; state = b i; pilot = c i; clock = d i; records = e i } in
+    (same, subst Invariant (sym same) (meant w s x))
 
 -- ---- the record at a place
 
@@ -111,8 +112,8 @@ unfolding configured
 free-good = configured-keeps (record { 0 = 0 }) (record { 0 = 0 }) (record { 0 = 0 }) (record { 0 = 0; 1 = 0 }) false .records .0
 
 -- past the last a free one
-pub at-meant : (w s : List ℕ) (i : ℕ) → GoodRecord (getD (recordsOf w s) i freeRecord)
-at-meant w s i = all-getD GoodRecord (recordsOf w s) i freeRecord (records-meant w s) free-good
+pub at-meant : (w s x : List ℕ) (i : ℕ) → GoodRecord (getD (recordsOf w s x) i freeRecord)
+at-meant w s x i = all-getD GoodRecord (recordsOf w s x) i freeRecord (records-meant w s x) free-good
 
 -- ---- how much there is
 
@@ -122,13 +123,14 @@ unfolding runs
 all-few zero k l = tt
 all-few (suc n) k l = (omega (arith, length-take k l), all-few n k (drop k l))
 
-zip-few : (k : ℕ) (xs ys : List (List ℕ)) → All (λ (y : List ℕ). length y ≤ k) ys → All (λ (r : Record). length (r .sums) ≤ k) (zipWith recordOf xs ys)
+zip-few : (k : ℕ) (xs ys zs : List (List ℕ)) → All (λ (y : List ℕ). length y ≤ k) ys → All (λ (r : Record). length (r .sums) ≤ k) (zipWith given (zipWith recordOf xs ys) zs)
 unfolding zipWith recordOf sumsOf
-zip-few k [] ys h = tt
-zip-few k (x ∷ xs) [] h = tt
-zip-few k (x ∷ xs) (y ∷ ys) h = (rw length-map (h .0), zip-few k xs ys (h .1))
+zip-few k [] ys zs h = tt
+zip-few k (x ∷ xs) [] zs h = tt
+zip-few k (x ∷ xs) (y ∷ ys) [] h = tt
+zip-few k (x ∷ xs) (y ∷ ys) (z ∷ zs) h = (rw length-map (h .0), zip-few k xs ys zs (h .1))
 
 -- each record has a sum for each group at most
-pub sums-few : (w s : List ℕ) → All (λ (r : Record). length (r .sums) ≤ groupCount) (recordsOf w s)
+pub sums-few : (w s x : List ℕ) → All (λ (r : Record). length (r .sums) ≤ groupCount) (recordsOf w s x)
 unfolding recordsOf
-sums-few w s = zip-few groupCount (runs recordCount width (drop headCount w)) (runs recordCount groupCount s) (all-few recordCount groupCount s)
+sums-few w s x = zip-few groupCount (wordRuns w) (sumRuns s) (spreadRuns x) (all-few recordCount groupCount s)

@@ -1,4 +1,4 @@
--- A record in its words and sums: the one at a place, one stored at a place, and a record's own words.
+-- A record in its words, sums and spread: the one at a place, one stored at a place, and a record's own words.
 use Prim.Native.Nat.{ℕ, suc, _+_, _*_, _^_, _≤_, _<_, _%_, min}
 use mathlib.Core.Path.{_≡_, refl, sym, ap, ap₂, _∙_}
 use mathlib.Core.Bool.{Bool, true, false, _&&_}
@@ -19,12 +19,13 @@ use Rattle.rules.specs.Constants.{recordCount}
 use Rattle.rules.specs.Invariant.{InPhase, GoodRecord}
 use Rattle.rules.specs.Records.{isHeld}
 use Rattle.ends.specs.Words.{runs}
-use Rattle.words.specs.Words.{headCount, width, wordCount, sumCount, phaseOf, profilesOf, mostSum, sumsOf, recordOf, recordsOf}
+use Rattle.words.specs.Words.{headCount, width, wordCount, sumCount, spreadWidth, spreadCount, phaseOf, profilesOf, mostSum, sumsOf, spreadOf, recordOf, wordRuns, sumRuns, spreadRuns, bySpread, given, recordsOf}
 use Rattle.ends.specs.Words.{flagOf}
-use Rattle.words.specs.Written.{phaseNumber, phaseCount, wordsOf}
+use Rattle.words.specs.Written.{phaseNumber, phaseCount, wordsOf, spreadOctets}
 use Rattle.records.specs.Timers.{timeOf}
 use Rattle.ends.proofs.WordLaws.{flag-and, word-at}
 use Rattle.ends.proofs.RunLaws.{drop-sets, length-runs, runs-at, runs-sets, length-zip, zip-set, zip-at}
+use Rattle.words.proofs.CopyLaws.{Sized, spread-back}
 
 -- where the words of the record at a place begin
 abbrev pub place : ℕ → ℕ
@@ -32,38 +33,48 @@ place i = headCount + width * i
 
 -- ---- by place
 
-module _ (w s : List ℕ) where
-  pub length-records : length (recordsOf w s) ≡ recordCount
-  unfolding recordsOf
-  length-records = length-zip recordOf (runs recordCount width (drop headCount w)) (runs recordCount groupCount s) recordCount
-      (length-runs recordCount width (drop headCount w)) (length-runs recordCount groupCount s)
+module _ (w s x : List ℕ) where
+  length-by-spread : length (bySpread w s) ≡ recordCount
+  length-by-spread = length-zip recordOf (wordRuns w) (sumRuns s) recordCount (length-runs recordCount width (drop headCount w)) (length-runs recordCount groupCount s)
 
-  -- the record at a place is that of its words and its sums
-  pub record-at : (i : ℕ) (d : Record) → i < recordCount → getD (recordsOf w s) i d ≡ recordOf (part w (place i) width) (part s (groupCount * i) groupCount)
+  pub length-records : length (recordsOf w s x) ≡ recordCount
+  unfolding recordsOf
+  length-records = length-zip given (bySpread w s) (spreadRuns x) recordCount length-by-spread (length-runs recordCount spreadWidth x)
+
+  -- the record at a place is that of its words, its sums and its spread
+  pub record-at : (i : ℕ) (d : Record) → i < recordCount
+      → getD (recordsOf w s x) i d ≡ recordOf (part w (place i) width) (part s (groupCount * i) groupCount) (part x (spreadWidth * i) spreadWidth)
   unfolding recordsOf
   record-at i d h =
-      zip-at recordOf (runs recordCount width (drop headCount w)) (runs recordCount groupCount s) i [] [] d
+      zip-at given (bySpread w s) (spreadRuns x) i (recordOf [] []) [] d
+      (rw length-by-spread h) (length-by-spread ∙ sym (length-runs recordCount spreadWidth x))
+      ∙ ap₂ given
+      (zip-at recordOf (wordRuns w) (sumRuns s) i [] [] (recordOf [] [])
       (rw (length-runs recordCount width (drop headCount w)) h) (length-runs recordCount width (drop headCount w) ∙ sym (length-runs recordCount groupCount s))
-      ∙ ap₂ recordOf (runs-at recordCount width i (drop headCount w) [] h ∙ ap (take width) (drop-drop (width * i) headCount w)) (runs-at recordCount groupCount i s [] h)
+      ∙ ap₂ recordOf (runs-at recordCount width i (drop headCount w) [] h ∙ ap (take width) (drop-drop (width * i) headCount w)) (runs-at recordCount groupCount i s [] h))
+      (runs-at recordCount spreadWidth i x [] h)
 
-  -- the words and sums of a record put in its place are that record put in its place
-  pub record-put : (v t : List ℕ) (i : ℕ) → i < recordCount → length w ≡ wordCount → length s ≡ sumCount → length v ≡ width → length t ≡ groupCount
-      → recordsOf (sets w (place i) v) (sets s (groupCount * i) t) ≡ set (recordsOf w s) i (recordOf v t)
+  -- the words, sums and spread of a record put in its place are that record put in its place
+  pub record-put : (v t y : List ℕ) (i : ℕ) → i < recordCount → length w ≡ wordCount → length s ≡ sumCount → length x ≡ spreadCount → length v ≡ width → length t ≡ groupCount → length y ≡ spreadWidth
+      → recordsOf (sets w (place i) v) (sets s (groupCount * i) t) (sets x (spreadWidth * i) y) ≡ set (recordsOf w s x) i (recordOf v t y)
   unfolding recordsOf
-  record-put v t i h lw ls lv lt =
-      ap₂ (zipWith recordOf)
+  record-put v t y i h lw ls lx lv lt ly =
+      ap₂ (zipWith given)
+      (ap₂ (zipWith recordOf)
       (ap (runs recordCount width) (drop-sets v w headCount (width * i)) ∙ runs-sets recordCount width i (drop headCount w) v lv (rw length-drop (omega arith)))
       (runs-sets recordCount groupCount i s t lt (omega arith))
-      ∙ zip-set recordOf (runs recordCount width (drop headCount w)) (runs recordCount groupCount s) i v t
+      ∙ zip-set recordOf (wordRuns w) (sumRuns s) i v t)
+      (runs-sets recordCount spreadWidth i x y ly (omega arith))
+      ∙ zip-set given (bySpread w s) (spreadRuns x) i (recordOf v t) y
 
-module _ (w s : List ℕ) (i : ℕ) (d : Record) (h : i < recordCount) where
-  pub held-at : isHeld (getD (recordsOf w s) i d) ≡ eqb (getD w (place i) 0) 1 && isUnicast (getD w (place i + 1) 0)
+module _ (w s x : List ℕ) (i : ℕ) (d : Record) (h : i < recordCount) where
+  pub held-at : isHeld (getD (recordsOf w s x) i d) ≡ eqb (getD w (place i) 0) 1 && isUnicast (getD w (place i + 1) 0)
   unfolding isHeld recordOf
-  held-at = rw (record-at w s i d h, word-at w (place i) width 0 (omega arith), word-at w (place i) width 1 (omega arith), add-zero)
+  held-at = rw (record-at w s x i d h, word-at w (place i) width 0 (omega arith), word-at w (place i) width 1 (omega arith), add-zero)
 
-  pub car-at : getD (recordsOf w s) i d .car .0 ≡ getD w (place i + 1) 0
+  pub car-at : getD (recordsOf w s x) i d .car .0 ≡ getD w (place i + 1) 0
   unfolding recordOf
-  car-at = rw (record-at w s i d h, word-at w (place i) width 1 (omega arith))
+  car-at = rw (record-at w s x i d h, word-at w (place i) width 1 (omega arith))
 
 -- ---- a record's own words, and back
 
@@ -100,10 +111,10 @@ sums-back n (x ∷ s) h =
     let e : min (mostSum n) x ≡ x = omega (arith, h 0) in
     ap₂ (λ (y : ℕ) (l : List ℕ). y ∷ l) e (sums-back n s (λ i. h (suc i)))
 
--- a good record's words and sums are that record
-pub record-back : (r : Record) → GoodRecord r → recordOf (wordsOf r) (r .sums) ≡ r
+-- a good record's words, sums and spread are that record
+pub record-back : (r : Record) → GoodRecord r → Sized (r .spread) → recordOf (wordsOf r) (r .sums) (spreadOctets (r .spread)) ≡ r
 unfolding recordOf wordsOf isHeld
-record-back r g =
+record-back r g z =
     let p : phaseOf (phaseNumber (r .phase)) (timeOf (r .phase)) (phaseCount (r .phase)) ≡ r .phase = phase-back (r .phase) (r .profiles) (g .phase) in
     let n : profilesOf (phaseOf (phaseNumber (r .phase)) (timeOf (r .phase)) (phaseCount (r .phase))) (r .profiles) ≡ r .profiles =
     ap (λ (q : Phase). profilesOf q (r .profiles)) p ∙ profiles-back (r .phase) (r .profiles) (g .phase) in
@@ -111,38 +122,40 @@ record-back r g =
     ap (λ (k : ℕ). sumsOf k (r .sums)) n ∙ sums-back (r .profiles) (r .sums) (g .sums) in
     let b : eqb (flagOf (r .held)) 1 && isUnicast (r .car .0) ≡ r .held = flag-and (r .held) (isUnicast (r .car .0)) (g .car) in
     let e : r .heard % 2 ^ soundCount ≡ r .heard = omega (arith, g .heard) in
-    λ i. record { car = r .car; run = r .run; held = b i; phase = p i; heard = e i; profiles = n i; sums = m i }
+    let x : spreadOf (spreadOctets (r .spread)) ≡ r .spread = spread-back (r .spread) z in
+    λ i. record { car = r .car; run = r .run; held = b i; phase = p i; heard = e i; profiles = n i; sums = m i; spread = x i }
 
 -- ---- a record read field by field
 
-module _ (w s : List ℕ) (i : ℕ) (d : Record) (h : i < recordCount) where
+module _ (w s x : List ℕ) (i : ℕ) (d : Record) (h : i < recordCount) where
   -- it is the record at its place
-  pub read-is : (x : Record)
-      → x .held ≡ isHeld (getD (recordsOf w s) i d)
-      → x .car ≡ getD (recordsOf w s) i d .car
-      → x .run .0 ≡ getD w (place i + 2) 0
-      → x .phase ≡ phaseOf (getD w (place i + 3) 0) (getD w (place i + 4) 0) (getD w (place i + 5) 0)
-      → x .heard ≡ getD w (place i + 6) 0 % 2 ^ soundCount
-      → x .profiles ≡ profilesOf (x .phase) (getD w (place i + 7) 0)
-      → x .sums ≡ sumsOf (x .profiles) (part s (groupCount * i) groupCount)
-      → x ≡ getD (recordsOf w s) i d
+  pub read-is : (r : Record)
+      → r .held ≡ isHeld (getD (recordsOf w s x) i d)
+      → r .car ≡ getD (recordsOf w s x) i d .car
+      → r .run .0 ≡ getD w (place i + 2) 0
+      → r .phase ≡ phaseOf (getD w (place i + 3) 0) (getD w (place i + 4) 0) (getD w (place i + 5) 0)
+      → r .heard ≡ getD w (place i + 6) 0 % 2 ^ soundCount
+      → r .profiles ≡ profilesOf (r .phase) (getD w (place i + 7) 0)
+      → r .sums ≡ sumsOf (r .profiles) (part s (groupCount * i) groupCount)
+      → r .spread ≡ spreadOf (part x (spreadWidth * i) spreadWidth)
+      → r ≡ getD (recordsOf w s x) i d
   unfolding isHeld recordOf
-  read-is x eh ec er ep ee en es =
+  read-is r eh ec er ep ee en es ex =
       let v = part w (place i) width in
-      let b = record-at w s i d h in
+      let b = record-at w s x i d h in
       let word : (j : ℕ) → j < width → getD w (place i + j) 0 ≡ getD v j 0 = λ j k. sym (word-at w (place i) width j k) in
-      let held : x .held ≡ eqb (getD v 0 0) 1 && isUnicast (getD v 1 0) = eh ∙ ap isHeld b in
-      let car : x .car .0 ≡ getD v 1 0 = ap (λ (c : CarAddress). c .0) ec ∙ ap (λ (r : Record). r .car .0) b in
-      let run : x .run .0 ≡ getD v 2 0 = er ∙ word 2 (omega arith) in
-      let phase : x .phase ≡ phaseOf (getD v 3 0) (getD v 4 0) (getD v 5 0) = ep ∙ rw (word 3 (omega arith), word 4 (omega arith), word 5 (omega arith)) in
-      let heard : x .heard ≡ getD v 6 0 % 2 ^ soundCount = ee ∙ ap (λ (n : ℕ). n % 2 ^ soundCount) (word 6 (omega arith)) in
-      let profiles : x .profiles ≡ profilesOf (phaseOf (getD v 3 0) (getD v 4 0) (getD v 5 0)) (getD v 7 0) = en ∙ ap₂ profilesOf phase (word 7 (omega arith)) in
-      let sums : x .sums ≡ sumsOf (profilesOf (phaseOf (getD v 3 0) (getD v 4 0) (getD v 5 0)) (getD v 7 0)) (part s (groupCount * i) groupCount) =
+      let held : r .held ≡ eqb (getD v 0 0) 1 && isUnicast (getD v 1 0) = eh ∙ ap isHeld b in
+      let car : r .car .0 ≡ getD v 1 0 = ap (λ (c : CarAddress). c .0) ec ∙ ap (λ (q : Record). q .car .0) b in
+      let run : r .run .0 ≡ getD v 2 0 = er ∙ word 2 (omega arith) in
+      let phase : r .phase ≡ phaseOf (getD v 3 0) (getD v 4 0) (getD v 5 0) = ep ∙ rw (word 3 (omega arith), word 4 (omega arith), word 5 (omega arith)) in
+      let heard : r .heard ≡ getD v 6 0 % 2 ^ soundCount = ee ∙ ap (λ (n : ℕ). n % 2 ^ soundCount) (word 6 (omega arith)) in
+      let profiles : r .profiles ≡ profilesOf (phaseOf (getD v 3 0) (getD v 4 0) (getD v 5 0)) (getD v 7 0) = en ∙ ap₂ profilesOf phase (word 7 (omega arith)) in
+      let sums : r .sums ≡ sumsOf (profilesOf (phaseOf (getD v 3 0) (getD v 4 0) (getD v 5 0)) (getD v 7 0)) (part s (groupCount * i) groupCount) =
       es ∙ ap (λ (n : ℕ). sumsOf n (part s (groupCount * i) groupCount)) profiles in
-      let same : x ≡ recordOf v (part s (groupCount * i) groupCount) =
-      λ j. record { car = record { 0 = car j }; run = record { 0 = run j }; held = held j; phase = phase j; heard = heard j; profiles = profiles j; sums = sums j } in
+      let same : r ≡ recordOf v (part s (groupCount * i) groupCount) (part x (spreadWidth * i) spreadWidth) =
+      λ j. record { car = record { 0 = car j }; run = record { 0 = run j }; held = held j; phase = phase j; heard = heard j; profiles = profiles j; sums = sums j; spread = ex j } in
       same ∙ sym b
 
 -- past the last place
-pub past-last : (w s : List ℕ) (i : ℕ) (d : Record) → recordCount ≤ i → getD (recordsOf w s) i d ≡ d
-past-last w s i d h = let l : length (recordsOf w s) ≤ i = rw (length-records w s) h in List·getD-eq-default (recordsOf w s) d l
+pub past-last : (w s x : List ℕ) (i : ℕ) (d : Record) → recordCount ≤ i → getD (recordsOf w s x) i d ≡ d
+past-last w s x i d h = let l : length (recordsOf w s x) ≤ i = rw (length-records w s x) h in List·getD-eq-default (recordsOf w s x) d l

@@ -20,39 +20,39 @@ use Rattle.words.specs.Words.{recordsOf, heldCount}
 use Rattle.words.proofs.RecordWords.{length-records}
 
 -- the record at a place
-abbrev pub at : List ℕ → List ℕ → ℕ → Record
-at w s i = getD (recordsOf w s) i freeRecord
+abbrev pub at : List ℕ → List ℕ → List ℕ → ℕ → Record
+at w s x i = getD (recordsOf w s x) i freeRecord
 
 -- ---- the car's own record
 
 -- before the record at i, with the first free place so far
 pub record Seeking (c : CarAddress) (w : List ℕ) (i : ℕ) (free : Found) : Type 0 where
   pub turns : i ≤ recordCount
-  pub search : (s : List ℕ) → Searching c (recordsOf w s) i free
+  pub search : (s x : List ℕ) → Searching c (recordsOf w s x) i free
 
 pub seeking-start : (c : CarAddress) (w : List ℕ) → Seeking c w 0 Nothing
-seeking-start c w = record { turns = omega arith; search = λ s. searching-start c (recordsOf w s) }
+seeking-start c w = record { turns = omega arith; search = λ s x. searching-start c (recordsOf w s x) }
 
-pub seeking-end : (c : CarAddress) (w : List ℕ) (i : ℕ) (free : Found) → Seeking c w i free → recordCount ≤ i → (s : List ℕ) → free ≡ placeOf c (recordsOf w s)
-seeking-end c w i free k h s = searching-end c (recordsOf w s) i free (k .search s) (rw (length-records w s) h)
+pub seeking-end : (c : CarAddress) (w : List ℕ) (i : ℕ) (free : Found) → Seeking c w i free → recordCount ≤ i → (s x : List ℕ) → free ≡ placeOf c (recordsOf w s x)
+seeking-end c w i free k h s x = searching-end c (recordsOf w s x) i free (k .search s x) (rw (length-records w s x) h)
 
 module _ (c : CarAddress) (w : List ℕ) (i : ℕ) (free : Found) (k : Seeking c w i free) (h : i < recordCount)
-    (held : Bool) (owner : CarAddress) (e : (s : List ℕ) → held ≡ isHeld (at w s i)) (o : (s : List ℕ) → owner ≡ at w s i .car) where
-  inside : (s : List ℕ) → i < length (recordsOf w s)
-  inside s = rw (length-records w s) h
+    (held : Bool) (owner : CarAddress) (e : (s x : List ℕ) → held ≡ isHeld (at w s x i)) (o : (s x : List ℕ) → owner ≡ at w s x i .car) where
+  inside : (s x : List ℕ) → i < length (recordsOf w s x)
+  inside s x = rw (length-records w s x) h
 
-  holds-is : (s : List ℕ) → held && eqb (c .0) (owner .0) ≡ holds c (at w s i)
+  holds-is : (s x : List ℕ) → held && eqb (c .0) (owner .0) ≡ holds c (at w s x i)
   unfolding holds sameCar
-  holds-is s = ap₂ (λ (x : Bool) (y : CarAddress). x && eqb (c .0) (y .0)) (e s) (o s)
+  holds-is s x = ap₂ (λ (b : Bool) (y : CarAddress). b && eqb (c .0) (y .0)) (e s x) (o s x)
 
-  pub seeking-own : held && eqb (c .0) (owner .0) ≡ true → (s : List ℕ) → Own i ≡ placeOf c (recordsOf w s)
-  seeking-own t s = searching-own c (recordsOf w s) i free freeRecord (k .search s) (inside s) (sym (holds-is s) ∙ t)
+  pub seeking-own : held && eqb (c .0) (owner .0) ≡ true → (s x : List ℕ) → Own i ≡ placeOf c (recordsOf w s x)
+  seeking-own t s x = searching-own c (recordsOf w s x) i free freeRecord (k .search s x) (inside s x) (sym (holds-is s x) ∙ t)
 
   pub seeking-next : (p : Found) → held && eqb (c .0) (owner .0) ≡ false → p ≡ orFree free i held → Seeking c w (i + 1) p
   unfolding isHeld
   seeking-next p f q = record {
     turns = omega arith;
-    search = λ s. searching-next c (recordsOf w s) i free freeRecord (k .search s) (inside s) p (sym (holds-is s) ∙ f) (q ∙ ap (orFree free i) (e s));
+    search = λ s x. searching-next c (recordsOf w s x) i free freeRecord (k .search s x) (inside s x) p (sym (holds-is s x) ∙ f) (q ∙ ap (orFree free i) (e s x));
   }
 
 -- ---- how many are held
@@ -61,34 +61,34 @@ module _ (c : CarAddress) (w : List ℕ) (i : ℕ) (free : Found) (k : Seeking c
 pub record Counting (w : List ℕ) (i n : ℕ) : Type 0 where
   pub turns : i ≤ recordCount
   pub few : n ≤ i
-  pub held : (s : List ℕ) → n + heldCount (drop i (recordsOf w s)) ≡ heldCount (recordsOf w s)
+  pub held : (s x : List ℕ) → n + heldCount (drop i (recordsOf w s x)) ≡ heldCount (recordsOf w s x)
 
 pub counting-start : (w : List ℕ) → Counting w 0 0
-counting-start w = record { turns = omega arith; few = omega arith; held = λ s. omega arith }
+counting-start w = record { turns = omega arith; few = omega arith; held = λ s x. omega arith }
 
-pub counting-end : (w : List ℕ) (i n : ℕ) → Counting w i n → recordCount ≤ i → (s : List ℕ) → n ≡ heldCount (recordsOf w s)
-counting-end w i n k h s =
-    let l : length (recordsOf w s) ≤ i = rw (length-records w s) h in
-    let z : heldCount (drop i (recordsOf w s)) ≡ 0 = ap heldCount (drop-of-length-le (recordsOf w s) l) ∙ ap length (only-none isHeld) in
-    omega (arith, k .held s)
+pub counting-end : (w : List ℕ) (i n : ℕ) → Counting w i n → recordCount ≤ i → (s x : List ℕ) → n ≡ heldCount (recordsOf w s x)
+counting-end w i n k h s x =
+    let l : length (recordsOf w s x) ≤ i = rw (length-records w s x) h in
+    let z : heldCount (drop i (recordsOf w s x)) ≡ 0 = ap heldCount (drop-of-length-le (recordsOf w s x) l) ∙ ap length (only-none isHeld) in
+    omega (arith, k .held s x)
 
-module _ (w : List ℕ) (i n : ℕ) (k : Counting w i n) (h : i < recordCount) (b : Bool) (e : (s : List ℕ) → b ≡ isHeld (at w s i)) where
-  from-here : (s : List ℕ) → heldCount (drop i (recordsOf w s)) ≡ heldCount (at w s i ∷ drop (i + 1) (recordsOf w s))
-  from-here s = ap heldCount (drop-next (recordsOf w s) i freeRecord (rw (length-records w s) h))
+module _ (w : List ℕ) (i n : ℕ) (k : Counting w i n) (h : i < recordCount) (b : Bool) (e : (s x : List ℕ) → b ≡ isHeld (at w s x i)) where
+  from-here : (s x : List ℕ) → heldCount (drop i (recordsOf w s x)) ≡ heldCount (at w s x i ∷ drop (i + 1) (recordsOf w s x))
+  from-here s x = ap heldCount (drop-next (recordsOf w s x) i freeRecord (rw (length-records w s x) h))
 
   pub counting-held : b ≡ true → Counting w (i + 1) (n + 1)
   counting-held t = record {
     turns = omega arith;
     few = omega (arith, k .few);
-    held = λ s.
-        let one : heldCount (at w s i ∷ drop (i + 1) (recordsOf w s)) ≡ 1 + heldCount (drop (i + 1) (recordsOf w s)) =
-        ap length (only-yes isHeld (at w s i) (drop (i + 1) (recordsOf w s)) (sym (e s) ∙ t)) ∙ omega arith in
-        omega (arith, k .held s, from-here s);
+    held = λ s x.
+        let one : heldCount (at w s x i ∷ drop (i + 1) (recordsOf w s x)) ≡ 1 + heldCount (drop (i + 1) (recordsOf w s x)) =
+        ap length (only-yes isHeld (at w s x i) (drop (i + 1) (recordsOf w s x)) (sym (e s x) ∙ t)) ∙ omega arith in
+        omega (arith, k .held s x, from-here s x);
   }
 
   pub counting-free : b ≡ false → Counting w (i + 1) n
   counting-free f = record {
     turns = omega arith;
     few = omega (arith, k .few);
-    held = λ s. omega (arith, k .held s, from-here s, ap length (only-no isHeld (at w s i) (drop (i + 1) (recordsOf w s)) (sym (e s) ∙ f)));
+    held = λ s x. omega (arith, k .held s x, from-here s x, ap length (only-no isHeld (at w s x i) (drop (i + 1) (recordsOf w s x)) (sym (e s x) ∙ f)));
   }

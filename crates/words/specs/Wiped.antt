@@ -6,14 +6,16 @@ use lib.ListN.{replicate}
 use Rattle.messages.specs.declared.CarAddress.{CarAddress}
 use Rattle.messages.specs.Reading.{no}
 use Rattle.rules.specs.Calls.{Call}
-use Rattle.rules.specs.Rules.{outcome, soundsHeard}
-use Rattle.words.specs.Words.{wordCount, sumCount, stationOf}
+use Rattle.rules.specs.Rules as rules
+use Rattle.rules.specs.Rules.{outcome}
+use Rattle.words.specs.Words.{wordCount, sumCount, spreadCount, stationOf}
 
--- the words v and sums t after a wipe
-pub record Wiped (v t : List ℕ) : Type 0 where
-  -- every word and every sum is 0
+-- the words v, sums t and spread y after a wipe
+pub record Wiped (v t y : List ℕ) : Type 0 where
+  -- every word, every sum and every octet of the spread is 0
   pub words : v ≡ replicate wordCount 0
   pub sums : t ≡ replicate sumCount 0
+  pub spread : y ≡ replicate spreadCount 0
   -- "answers 16 to everything"
-  pub calls : (x : Call) → outcome (stationOf v t) x ≡ no 16
-  pub query : (c : CarAddress) → soundsHeard (stationOf v t) c ≡ no 16
+  pub calls : (x : Call) → outcome (stationOf v t y) x ≡ no 16
+  pub query : (c : CarAddress) → rules.query (stationOf v t y) c ≡ no 16

@@ -1,14 +1,16 @@
--- A station as words and sums: what any two lists of numbers mean.
+-- A station as words, sums and spread: what any three lists of numbers mean.
 use Prim.Native.Nat.{ℕ, _+_, _*_, _-_, _^_, _%_, min, max}
 use mathlib.Core.Bool.{Bool, true, false, cond, _&&_}
 use mathlib.Core.List.{List, [], _∷_, map, zipWith}
 use lib.Dec.{eqb}
 use lib.ListN.{length, getD, drop}
+use Rattle.octets.specs.Octets.{part}
 use Rattle.messages.specs.Table.{groupCount, isUnicast}
 use Rattle.rules.specs.declared.Configuration.{Configuration}
 use Rattle.rules.specs.declared.Phase.{Phase}
 use Rattle.rules.specs.declared.Phase.the-variants.{Asked, Sounding, Reported, Awaiting, Ready, Counting, Success}
 use Rattle.rules.specs.declared.Record.{Record}
+use Rattle.rules.specs.declared.Spread.{Spread}
 use Rattle.rules.specs.declared.State.{State}
 use Rattle.rules.specs.declared.State.the-variants.{Unmatched, Matching, Joining, Matched}
 use Rattle.rules.specs.declared.Station.{Station}
@@ -38,6 +40,14 @@ wordCount = headCount + width * recordCount
 -- how many sums a station has
 abbrev pub sumCount : ℕ
 sumCount = groupCount * recordCount
+
+-- how many octets of the spread a record has: its least values, then its greatest
+abbrev pub spreadWidth : ℕ
+spreadWidth = 2 * groupCount
+
+-- how many octets the spread of a station has
+abbrev pub spreadCount : ℕ
+spreadCount = spreadWidth * recordCount
 
 -- ---- a record
 
@@ -84,9 +94,13 @@ mostSum profiles = 255 * profiles
 unfoldable pub sumsOf : ℕ → List ℕ → List ℕ
 sumsOf profiles s = map (min (mostSum profiles)) s
 
--- the record of its words and its sums: only a unicast car holds one
-unfoldable pub recordOf : List ℕ → List ℕ → Record
-recordOf w s =
+-- the spread of its octets: any are values
+unfoldable pub spreadOf : List ℕ → Spread
+spreadOf x = record { least = part x 0 groupCount; greatest = part x groupCount groupCount }
+
+-- the record of its words, its sums and its spread: only a unicast car holds one
+unfoldable pub recordOf : List ℕ → List ℕ → List ℕ → Record
+recordOf w s x =
     let phase = phaseOf (getD w 3 0) (getD w 4 0) (getD w 5 0) in
     let profiles = profilesOf phase (getD w 7 0) in
     record {
@@ -97,11 +111,36 @@ recordOf w s =
       heard = getD w 6 0 % 2 ^ soundCount;
       profiles = profiles;
       sums = sumsOf profiles s;
+      spread = spreadOf x;
     }
 
--- the records, behind the head
-unfoldable pub recordsOf : List ℕ → List ℕ → List Record
-recordsOf w s = zipWith recordOf (runs recordCount width (drop headCount w)) (runs recordCount groupCount s)
+-- the words of each record, behind the head
+abbrev pub wordRuns : List ℕ → List (List ℕ)
+wordRuns w = runs recordCount width (drop headCount w)
+
+-- the sums of each
+abbrev pub sumRuns : List ℕ → List (List ℕ)
+sumRuns s = runs recordCount groupCount s
+
+-- the spread of each
+abbrev pub spreadRuns : List ℕ → List (List ℕ)
+spreadRuns x = runs recordCount spreadWidth x
+
+-- a record by its spread
+abbrev pub BySpread : Type 0
+BySpread = List ℕ → Record
+
+-- the records of their words and sums, each by its spread
+abbrev pub bySpread : List ℕ → List ℕ → List BySpread
+bySpread w s = zipWith recordOf (wordRuns w) (sumRuns s)
+
+-- one of them, given its spread
+abbrev pub given : BySpread → List ℕ → Record
+given f x = f x
+
+-- the records
+unfoldable pub recordsOf : List ℕ → List ℕ → List ℕ → List Record
+recordsOf w s x = zipWith given (bySpread w s) (spreadRuns x)
 
 -- how many records are held
 abbrev pub heldCount : List Record → ℕ
@@ -134,14 +173,14 @@ stateOf w = stateBy (getD w 6 0) (getD w 7 0) (getD w 8 0) (getD w 9 0)
 
 -- ---- the station
 
--- the station of its words and its sums
-unfoldable pub stationOf : List ℕ → List ℕ → Station
-stationOf w s = record {
+-- the station of its words, its sums and its spread
+unfoldable pub stationOf : List ℕ → List ℕ → List ℕ → Station
+stationOf w s x = record {
   config = configOf w;
   state = stateOf w;
   pilot = pilotOf (getD w 10 0);
   clock = getD w 11 0 % 2 ^ 32;
-  records = recordsOf w s;
+  records = recordsOf w s x;
 }
 
 -- the station with other records

@@ -1,13 +1,14 @@
 -- The words that are written for the parts of a station.
 use Prim.Native.Nat.{ℕ}
 use mathlib.Core.Bool.{Bool, true, false}
-use mathlib.Core.List.{List, [], _∷_}
+use mathlib.Core.List.{List, [], _∷_, _++_}
 use Rattle.rules.specs.declared.Configuration.{Configuration}
 use Rattle.rules.specs.declared.Phase.{Phase}
 use Rattle.rules.specs.declared.Phase.the-variants.{Asked, Sounding, Reported, Awaiting, Ready, Counting, Success}
 use Rattle.rules.specs.declared.Pilot.{Pilot}
 use Rattle.rules.specs.declared.Pilot.the-variants.{A, B, C, D, E, F}
 use Rattle.rules.specs.declared.Record.{Record}
+use Rattle.rules.specs.declared.Spread.{Spread}
 use Rattle.rules.specs.declared.State.{State}
 use Rattle.rules.specs.declared.State.the-variants.{Unmatched, Matching, Joining, Matched}
 use Rattle.ends.specs.Words.{flagOf}
@@ -41,6 +42,10 @@ phaseCount (Success t) = 0
 -- a record's words
 unfoldable pub wordsOf : Record → List ℕ
 wordsOf r = flagOf (r .held) ∷ r .car .0 ∷ r .run .0 ∷ phaseNumber (r .phase) ∷ timeOf (r .phase) ∷ phaseCount (r .phase) ∷ r .heard ∷ r .profiles ∷ []
+
+-- a spread's octets: the least values, then the greatest
+abbrev pub spreadOctets : Spread → List ℕ
+spreadOctets x = x .least ++ x .greatest
 
 -- the number of a state
 abbrev pub stateNumber : State → ℕ

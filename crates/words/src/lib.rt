@@ -1,4 +1,4 @@
-// A station lent as plain words and sums: a field to a word, and the sums of all records side by side.
+// A station lent as plain words, sums and spread: a field to a word, and the sums and the spread of all records side by side.
 mod copies;
 mod fields;
 mod head;
@@ -39,11 +39,20 @@ pub const WORDS: usize = HEAD + WIDTH * RECORDS;
 // How many sums a station has.
 pub const SUMS: usize = GROUPS * RECORDS;
 
+// How many octets of the spread a record has.
+pub const SPREAD_WIDTH: usize = 2 * GROUPS;
+
+// How many octets the spread of a station has.
+pub const SPREAD: usize = SPREAD_WIDTH * RECORDS;
+
 // The words of a station: the head, then the records.
 pub type StationWords = [u64; WORDS];
 
 // The sums of a station: a record's groups behind the other's.
 pub type StationSums = [u16; SUMS];
+
+// The spread of a station: a record's least values, then its greatest, behind the other's.
+pub type StationSpread = [u8; SPREAD];
 
 // The configuration.
 pub fn config_of(words: &StationWords) -> Configuration
@@ -61,24 +70,29 @@ pub fn state_of(words: &StationWords) -> State
 
 // The place of the car's own record, or else the first free place: two words of each record are read.
 pub fn find(words: &StationWords, car: CarAddress) -> Found
-    ensures { λ p. ⌜ ((sums : List ℕ) → p ≡ placeOf car (recordsOf (now (words .entry)) sums)) ⌝ }
+    ensures { λ p. ⌜ ((sums spread : List ℕ) → p ≡ placeOf car (recordsOf (now (words .entry)) sums spread)) ⌝ }
 {
     search::find(words, car)
 }
 
 // How many records are held.
 pub fn held_count(words: &StationWords) -> u32
-    ensures { λ n. ⌜ ((sums : List ℕ) → n ≡ heldCount (recordsOf (now (words .entry)) sums)) ⌝ }
+    ensures { λ n. ⌜ ((sums spread : List ℕ) → n ≡ heldCount (recordsOf (now (words .entry)) sums spread)) ⌝ }
 {
     search::held_count(words)
 }
 
 // The record at a place; past the last, a free one.
-pub fn record_at(words: &StationWords, sums: &StationSums, i: usize) -> Record
-    ensures { λ r. ⌜ (r ≡ getD (recordsOf (now (words .entry)) (now (sums .entry))) i freeRecord) × GoodRecord r ⌝ }
+pub fn record_at(
+    words: &StationWords,
+    sums: &StationSums,
+    spread: &StationSpread,
+    i: usize,
+) -> Record
+    ensures { λ r. ⌜ (r ≡ getD (recordsOf (now (words .entry)) (now (sums .entry)) (now (spread .entry))) i freeRecord) × GoodRecord r ⌝ }
 {
     if i < RECORDS {
-        one_record::read(words, sums, i)
+        one_record::read(words, sums, spread, i)
     } else {
         let fresh = changes::fresh(CarAddress(0), messages::RunId(0));
         timers::freed(fresh)
@@ -86,11 +100,17 @@ pub fn record_at(words: &StationWords, sums: &StationSums, i: usize) -> Record
 }
 
 // Stores a record at its place; past the last, nothing.
-pub fn put_record(words: &mut StationWords, sums: &mut StationSums, i: usize, r: Record)
+pub fn put_record(
+    words: &mut StationWords,
+    sums: &mut StationSums,
+    spread: &mut StationSpread,
+    i: usize,
+    r: Record,
+)
     requires { ⌜ GoodRecord r ⌝ }
-    ensures { λ _. ⌜ stationOf (now (words .exit)) (now (sums .exit)) ≡ withRecords (stationOf (now (words .entry)) (now (sums .entry))) (set (recordsOf (now (words .entry)) (now (sums .entry))) i r) ⌝ }
+    ensures { λ _. ⌜ stationOf (now (words .exit)) (now (sums .exit)) (now (spread .exit)) ≡ withRecords (stationOf (now (words .entry)) (now (sums .entry)) (now (spread .entry))) (set (recordsOf (now (words .entry)) (now (sums .entry)) (now (spread .entry))) i r) ⌝ }
 {
-    one_record::store(words, sums, i, r);
+    one_record::store(words, sums, spread, i, r);
 }
 
 // The number of a state: 0 Unmatched, 1 Matching, 2 Joining, 3 Matched.
@@ -109,24 +129,29 @@ pub fn state_number(state: State) -> u32
     }
 }
 
-// The station that the words and sums mean: any do.
-pub fn unpack(words: &StationWords, sums: &StationSums) -> Station
-    ensures { λ r. ⌜ (r ≡ stationOf (now (words .entry)) (now (sums .entry))) × Invariant r ⌝ }
+// The station that the words, sums and spread mean: any do.
+pub fn unpack(words: &StationWords, sums: &StationSums, spread: &StationSpread) -> Station
+    ensures { λ r. ⌜ (r ≡ stationOf (now (words .entry)) (now (sums .entry)) (now (spread .entry))) × Invariant r ⌝ }
 {
-    whole::unpack(words, sums)
+    whole::unpack(words, sums, spread)
 }
 
 // Stores a station.
-pub fn pack(station: Station, words: &mut StationWords, sums: &mut StationSums)
+pub fn pack(
+    station: Station,
+    words: &mut StationWords,
+    sums: &mut StationSums,
+    spread: &mut StationSpread,
+)
     requires { ⌜ Invariant station ⌝ }
-    ensures { λ _. ⌜ stationOf (now (words .exit)) (now (sums .exit)) ≡ station ⌝ }
+    ensures { λ _. ⌜ stationOf (now (words .exit)) (now (sums .exit)) (now (spread .exit)) ≡ station ⌝ }
 {
-    whole::pack(station, words, sums);
+    whole::pack(station, words, sums, spread);
 }
 
 // Wipes a station, its key too: it answers 16 to everything.
-pub fn wipe(words: &mut StationWords, sums: &mut StationSums)
-    ensures { λ _. ⌜ Wiped (now (words .exit)) (now (sums .exit)) ⌝ }
+pub fn wipe(words: &mut StationWords, sums: &mut StationSums, spread: &mut StationSpread)
+    ensures { λ _. ⌜ Wiped (now (words .exit)) (now (sums .exit)) (now (spread .exit)) ⌝ }
 {
-    whole::wipe(words, sums);
+    whole::wipe(words, sums, spread);
 }

@@ -1,5 +1,6 @@
-// One record: read out of its words and sums, and stored in them.
+// One record: read out of its words, sums and spread, and stored in them.
 use crate::HEAD;
+use crate::SPREAD_WIDTH;
 use crate::WIDTH;
 use crate::copies;
 use crate::fields;
@@ -17,13 +18,13 @@ ghost use Rattle.rules.specs.Constants.{recordCount};
 ghost use Rattle.rules.specs.Records.{isHeld};
 ghost use Rattle.rules.specs.Invariant.{GoodRecord};
 ghost use Rattle.rules.specs.Rules.{freeRecord};
-ghost use Rattle.words.specs.Words.{wordCount, sumCount, recordsOf, stationOf, withRecords};
+ghost use Rattle.words.specs.Words.{wordCount, sumCount, spreadCount, recordsOf, stationOf, withRecords};
 ghost use Rattle.words.specs.Written.{wordsOf};
 
 // Whether the record at a place is held.
 pub(crate) fn is_held(words: &[u64], i: usize) -> bool
     requires { ⌜ (i < recordCount) × (length (now words) ≡ wordCount) ⌝ }
-    ensures { λ b. ⌜ ((sums : List ℕ) → b ≡ isHeld (getD (recordsOf (now (words .entry)) sums) i freeRecord)) ⌝ }
+    ensures { λ b. ⌜ ((sums spread : List ℕ) → b ≡ isHeld (getD (recordsOf (now (words .entry)) sums spread) i freeRecord)) ⌝ }
 {
     let at = HEAD + WIDTH * i;
     (words[at] == 1) & messages::is_unicast(words[at + 1])
@@ -32,15 +33,15 @@ pub(crate) fn is_held(words: &[u64], i: usize) -> bool
 // The car of the record at a place.
 pub(crate) fn car_at(words: &[u64], i: usize) -> CarAddress
     requires { ⌜ (i < recordCount) × (length (now words) ≡ wordCount) ⌝ }
-    ensures { λ c. ⌜ ((sums : List ℕ) → c ≡ getD (recordsOf (now (words .entry)) sums) i freeRecord .car) ⌝ }
+    ensures { λ c. ⌜ ((sums spread : List ℕ) → c ≡ getD (recordsOf (now (words .entry)) sums spread) i freeRecord .car) ⌝ }
 {
     CarAddress(words[HEAD + WIDTH * i + 1])
 }
 
 // The record at a place.
-pub(crate) fn read(words: &[u64], sums: &[u16], i: usize) -> Record
-    requires { ⌜ (i < recordCount) × ((length (now words) ≡ wordCount) × (length (now sums) ≡ sumCount)) ⌝ }
-    ensures { λ r. ⌜ r ≡ getD (recordsOf (now (words .entry)) (now (sums .entry))) i freeRecord ⌝ }
+pub(crate) fn read(words: &[u64], sums: &[u16], spread: &[u8], i: usize) -> Record
+    requires { ⌜ (i < recordCount) × ((length (now words) ≡ wordCount) × ((length (now sums) ≡ sumCount) × (length (now spread) ≡ spreadCount))) ⌝ }
+    ensures { λ r. ⌜ r ≡ getD (recordsOf (now (words .entry)) (now (sums .entry)) (now (spread .entry))) i freeRecord ⌝ }
 {
     let at = HEAD + WIDTH * i;
     let held = is_held(words, i);
@@ -49,6 +50,7 @@ pub(crate) fn read(words: &[u64], sums: &[u16], i: usize) -> Record
     let heard = fields::heard(words[at + 6]);
     let profiles = fields::profiles(phase, words[at + 7]);
     let own = copies::sums_at(sums, GROUPS * i, profiles);
+    let values = copies::spread_at(spread, SPREAD_WIDTH * i);
     Record {
         car: car,
         run: RunId(words[at + 2]),
@@ -57,6 +59,7 @@ pub(crate) fn read(words: &[u64], sums: &[u16], i: usize) -> Record
         heard: heard,
         profiles: profiles,
         sums: own,
+        spread: values,
     }
 }
 
@@ -77,9 +80,9 @@ fn record_words(r: Record) -> [u64; WIDTH]
 }
 
 // Stores a record at its place; past the last place, nothing.
-pub(crate) fn store(words: &mut [u64], sums: &mut [u16], i: usize, r: Record)
-    requires { ⌜ GoodRecord r × ((length (now words) ≡ wordCount) × (length (now sums) ≡ sumCount)) ⌝ }
-    ensures { λ _. ⌜ stationOf (now (words .exit)) (now (sums .exit)) ≡ withRecords (stationOf (now (words .entry)) (now (sums .entry))) (set (recordsOf (now (words .entry)) (now (sums .entry))) i r) ⌝ }
+pub(crate) fn store(words: &mut [u64], sums: &mut [u16], spread: &mut [u8], i: usize, r: Record)
+    requires { ⌜ GoodRecord r × ((length (now words) ≡ wordCount) × ((length (now sums) ≡ sumCount) × (length (now spread) ≡ spreadCount))) ⌝ }
+    ensures { λ _. ⌜ stationOf (now (words .exit)) (now (sums .exit)) (now (spread .exit)) ≡ withRecords (stationOf (now (words .entry)) (now (sums .entry)) (now (spread .entry))) (set (recordsOf (now (words .entry)) (now (sums .entry)) (now (spread .entry))) i r) ⌝ }
 {
     if RECORDS <= i {
         return;
@@ -88,4 +91,6 @@ pub(crate) fn store(words: &mut [u64], sums: &mut [u16], i: usize, r: Record)
     ends::runs::put_words(&own, words, HEAD + WIDTH * i);
     let groups = r.sums;
     copies::put_sums(&groups, sums, GROUPS * i);
+    let values = r.spread;
+    copies::put_spread(values, spread, SPREAD_WIDTH * i);
 }

@@ -1,4 +1,4 @@
-// The held records, by two words of each: no sum is read.
+// The held records, by two words of each: nothing else is read.
 use crate::one_record;
 use messages::CarAddress;
 use records::find;
@@ -14,7 +14,7 @@ ghost use Rattle.words.specs.Words.{wordCount, recordsOf, heldCount};
 // The place of the car's own record, or else the first free place.
 pub(crate) fn find(words: &[u64], car: CarAddress) -> Found
     requires { ⌜ length (now words) ≡ wordCount ⌝ }
-    ensures { λ p. ⌜ ((sums : List ℕ) → p ≡ placeOf car (recordsOf (now (words .entry)) sums)) ⌝ }
+    ensures { λ p. ⌜ ((sums spread : List ℕ) → p ≡ placeOf car (recordsOf (now (words .entry)) sums spread)) ⌝ }
 {
     let mut i: usize = 0;
     let mut free = Found::Nothing;
@@ -36,7 +36,7 @@ pub(crate) fn find(words: &[u64], car: CarAddress) -> Found
 // How many records are held.
 pub(crate) fn held_count(words: &[u64]) -> u32
     requires { ⌜ length (now words) ≡ wordCount ⌝ }
-    ensures { λ n. ⌜ ((sums : List ℕ) → n ≡ heldCount (recordsOf (now (words .entry)) sums)) ⌝ }
+    ensures { λ n. ⌜ ((sums spread : List ℕ) → n ≡ heldCount (recordsOf (now (words .entry)) sums spread)) ⌝ }
 {
     let mut n: u32 = 0;
     let mut i: usize = 0;

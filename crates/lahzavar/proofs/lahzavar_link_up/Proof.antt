@@ -11,10 +11,10 @@ link-up-requires : tie.Need-link-up-requires
 link-up-requires c κs = c .unpack .ensures .1
 
 settle-requires : tie.Need-settle-requires
-settle-requires c κs = c .before .before .link-up .ensures .kept
+settle-requires c κs = c .before .before .before .link-up .ensures .kept
 
 returns : tie.Need-returns
-returns c = lent _ _ _ _ _ _ _ _ _ _ (c .before .before .before .before .unpack .ensures .0) (c .before .before .before .link-up .ensures) (c .settle .ensures)
+returns c = lent _ _ _ _ _ _ _ _ _ _ _ _ (c .before .before .before .before .before .unpack .ensures .0) (c .before .before .before .before .link-up .ensures) (c .settle .ensures)
 
 pub lahzavar-link-up-spec : {M : Type 1} → statement M
 lahzavar-link-up-spec =

@@ -16,7 +16,7 @@ no-pilot-requires c κs = search needs
 
 returns : tie.Need-returns
 unfolding stationOf
-returns c = no-pilot-lent _ _ _ _ _ _ (ap (λ (o : Configuration). o .good) (c .before .config-of .ensures)) (c .before .before .before .if1 .taken) (c .no-pilot .ensures)
+returns c = no-pilot-lent _ _ _ _ _ _ _ (ap (λ (o : Configuration). o .good) (c .before .config-of .ensures)) (c .before .before .before .if1 .taken) (c .no-pilot .ensures)
 
 unpack-requires : tie.Need-unpack-requires
 unpack-requires c κs = search needs
@@ -31,10 +31,10 @@ pilot-requires : tie.Need-pilot-requires
 pilot-requires c κs = c .before .before .unpack .ensures .1
 
 settle-requires : tie.Need-settle-requires
-settle-requires c κs = c .before .before .pilot .ensures .kept
+settle-requires c κs = c .before .before .before .pilot .ensures .kept
 
 returns-2 : tie.Need-returns-2
-returns-2 c = pilot-lent _ _ _ _ _ _ _ _ (c .before .before .before .before .pilot-of .ensures ∙ ap pilotOf (c .before .before .before .before .before .wide .ensures)) (c .before .before .before .before .before .before .before .before .before .if1 .left) (lent _ _ _ _ _ _ _ _ _ _ (c .before .before .before .before .before .before .unpack .ensures .0) (c .before .before .before .pilot .ensures) (c .settle .ensures))
+returns-2 c = pilot-lent _ _ _ _ _ _ _ _ _ _ (c .before .before .before .before .before .pilot-of .ensures ∙ ap pilotOf (c .before .before .before .before .before .before .wide .ensures)) (c .before .before .before .before .before .before .before .before .before .before .before .if1 .left) (lent _ _ _ _ _ _ _ _ _ _ _ _ (c .before .before .before .before .before .before .before .unpack .ensures .0) (c .before .before .before .before .pilot .ensures) (c .settle .ensures))
 
 pub lahzavar-pilot-spec : {M : Type 1} → statement M
 lahzavar-pilot-spec =

@@ -11,10 +11,10 @@ terminate-requires : tie.Need-terminate-requires
 terminate-requires c κs = c .unpack .ensures .1
 
 settle-requires : tie.Need-settle-requires
-settle-requires c κs = c .before .before .terminate .ensures .kept
+settle-requires c κs = c .before .before .before .terminate .ensures .kept
 
 returns : tie.Need-returns
-returns c = lent _ _ _ _ _ _ _ _ _ _ (c .before .before .before .before .unpack .ensures .0) (c .before .before .before .terminate .ensures) (c .settle .ensures)
+returns c = lent _ _ _ _ _ _ _ _ _ _ _ _ (c .before .before .before .before .before .unpack .ensures .0) (c .before .before .before .before .terminate .ensures) (c .settle .ensures)
 
 pub lahzavar-terminate-spec : {M : Type 1} → statement M
 lahzavar-terminate-spec =

@@ -11,13 +11,13 @@ tick-requires : tie.Need-tick-requires
 tick-requires c κs = c .before .unpack .ensures .1
 
 settle-requires : tie.Need-settle-requires
-settle-requires c κs = c .before .before .before .before .tick .ensures .kept
+settle-requires c κs = c .before .before .before .before .before .tick .ensures .kept
 
 same-length : tie.Need-same-length
 same-length c = search needs
 
 returns : tie.Need-returns
-returns c = lent _ _ _ _ _ _ _ _ _ _ (c .before .before .before .before .before .before .before .unpack .ensures .0) (c .before .before .before .before .before .tick .ensures) (c .settle .ensures)
+returns c = lent _ _ _ _ _ _ _ _ _ _ _ _ (c .before .before .before .before .before .before .before .before .unpack .ensures .0) (c .before .before .before .before .before .before .tick .ensures) (c .settle .ensures)
 
 pub lahzavar-tick-spec : {M : Type 1} → statement M
 lahzavar-tick-spec =

@@ -44,12 +44,11 @@ run-fits c = search needs
 
 sent-requires : tie.Need-sent-requires
 sent-requires c κs =
-    let s = c .before .before .before .before .before .before .before .before .before .before in
-    let a = s .args in
-    let own = c .before .before .before .before .before .owned .ensures ∙ ap (owned (a .car)) (c .before .before .before .before .before .before .fresh .ensures) in (
-      subst GoodRecord (sym own) (fresh-good (a .car) (a .run) (s .pre .car)),
-      writable-as _ _ (length (a .out .now)) (c .before .before .before .before .parm-cnf .ensures _ ∙ ap (λ (o : Configuration). messageTo o (a .car) (parmCnf (a .run))) (config-here (a .words .now) (a .sums .now) (a .car) _ (c .before .before .before .before .before .before .before .config-of .ensures)))
-          (parm-cnf-writable (stationOf (a .words .now) (a .sums .now) .config) (a .car) (length (a .out .now)) (s .pre .kept .config .address (s .pre .good)) (s .pre .car) (a .run) (run-fits s) (s .pre .room)),
+    let a = c .before .before .before .before .before .before .before .before .before .before .before .args in
+    let own = c .before .before .before .before .before .before .owned .ensures ∙ ap (owned (a .car)) (c .before .before .before .before .before .before .before .fresh .ensures) in (
+      subst GoodRecord (sym own) (fresh-good (a .car) (a .run) (c .before .before .before .before .before .before .before .before .before .before .before .pre .car)),
+      writable-as _ _ (length (a .out .now)) (c .before .before .before .before .before .parm-cnf .ensures _ ∙ ap (λ (o : Configuration). messageTo o (a .car) (parmCnf (a .run))) (config-here (a .words .now) (a .sums .now) (a .spread .now) (a .car) _ (c .before .before .before .before .before .before .before .before .config-of .ensures)))
+          (parm-cnf-writable (stationOf (a .words .now) (a .sums .now) (a .spread .now) .config) (a .car) (length (a .out .now)) (c .before .before .before .before .before .before .before .before .before .before .before .pre .kept .config .address (c .before .before .before .before .before .before .before .before .before .before .before .pre .good)) (c .before .before .before .before .before .before .before .before .before .before .before .pre .car) (a .run) (run-fits (c .before .before .before .before .before .before .before .before .before .before .before)) (c .before .before .before .before .before .before .before .before .before .before .before .pre .room)),
     )
 
 same-length : tie.Need-same-length
@@ -58,11 +57,11 @@ same-length c = search needs
 returns : tie.Need-returns
 unfolding frameTo
 returns c =
-    let a = c .before .before .before .before .before .before .before .before .before .before .before .before .before .args in
-    let own = c .before .before .before .before .before .before .before .before .owned .ensures ∙ ap (owned (a .car)) (c .before .before .before .before .before .before .before .before .before .fresh .ensures) in
-    comes-as _ _ (a .words .now) (a .sums .now) (a .out .now) _ _ _ (c .before .before .sent .result)
-    (ap₂ (λ (k : Record) (m : table.Message). yes (done ((stationOf (a .words .now) (a .sums .now)) .state) (set ((stationOf (a .words .now) (a .sums .now)) .records) (a .i) k) (writing.frame m ∷ []) Nothing)) own
-    (c .before .before .before .before .before .before .before .parm-cnf .ensures _ ∙ ap (λ (o : Configuration). messageTo o (a .car) (parmCnf (a .run))) (config-here (a .words .now) (a .sums .now) (a .car) _ (c .before .before .before .before .before .before .before .before .before .before .config-of .ensures))))
+    let a = c .before .before .before .before .before .before .before .before .before .before .before .before .before .before .args in
+    let own = c .before .before .before .before .before .before .before .before .before .owned .ensures ∙ ap (owned (a .car)) (c .before .before .before .before .before .before .before .before .before .before .fresh .ensures) in
+    comes-as _ _ (a .words .now) (a .sums .now) (a .spread .now) (a .out .now) _ _ _ _ (c .before .before .sent .result)
+    (ap₂ (λ (k : Record) (m : table.Message). yes (done ((stationOf (a .words .now) (a .sums .now) (a .spread .now)) .state) (set ((stationOf (a .words .now) (a .sums .now) (a .spread .now)) .records) (a .i) k) (writing.frame m ∷ []) Nothing)) own
+    (c .before .before .before .before .before .before .before .before .parm-cnf .ensures _ ∙ ap (λ (o : Configuration). messageTo o (a .car) (parmCnf (a .run))) (config-here (a .words .now) (a .sums .now) (a .spread .now) (a .car) _ (c .before .before .before .before .before .before .before .before .before .before .before .config-of .ensures))))
     (c .before .before .sent .ensures)
 
 pub admit-spec : {M : Type 1} → statement M

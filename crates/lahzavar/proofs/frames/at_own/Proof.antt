@@ -20,7 +20,7 @@ refused-requires c κs = search needs
 returns : tie.Need-returns
 returns c =
     let a = c .before .before .before .before .before .before .args in
-    comes-refused _ WrongState (a .words .now) (a .sums .now) (a .out .now) (c .refused .result) (takes-none (a .words .now) (a .sums .now) (a .car) _ (c .before .before .state-of .ensures) _ (c .before .match .keys2)) (c .refused .ensures)
+    comes-refused _ WrongState (a .words .now) (a .sums .now) (a .spread .now) (a .out .now) (c .refused .result) (takes-none (a .words .now) (a .sums .now) (a .spread .now) (a .car) _ (c .before .before .state-of .ensures) _ (c .before .match .keys2)) (c .refused .ensures)
 
 find-requires : tie.Need-find-requires
 find-requires c κs = search needs
@@ -34,8 +34,7 @@ refused-requires-2 c κs = search needs
 returns-2 : tie.Need-returns-2
 returns-2 c =
     let a = c .before .before .before .before .before .before .before .before .before .before .args in
-    let p = c .before .before in
-    comes-refused _ NoRecord (a .words .now) (a .sums .now) (a .out .now) (c .refused2 .result) (takes-missing (a .words .now) (a .sums .now) (a .car) _ (p .before .before .before .before .state-of .ensures) _ (p .before .before .enum-told .given .1) (p .find .result) (p .find .ensures) (a .message) (groupsOf (readRules (a .octets .now))) (c .before .match2 .keys2)) (c .refused2 .ensures)
+    comes-refused _ NoRecord (a .words .now) (a .sums .now) (a .spread .now) (a .out .now) (c .refused2 .result) (takes-missing (a .words .now) (a .sums .now) (a .spread .now) (a .car) _ (c .before .before .before .before .before .before .state-of .ensures) _ (c .before .before .before .before .enum-told .given .1) (c .before .before .find .result) (c .before .before .find .ensures) (a .message) (groupsOf (readRules (a .octets .now))) (c .before .match2 .keys2)) (c .refused2 .ensures)
 
 record-at-requires : tie.Need-record-at-requires
 record-at-requires c κs = search needs
@@ -45,19 +44,17 @@ at-record-requires c κs = c .record-at .ensures .1
 
 settle-requires : tie.Need-settle-requires
 settle-requires c κs =
-    let s = c .before .before .before .before .before .before .before .before .before .before .before .before .before .before .before .before .before .before in
-    let a = s .args in
-    (s .pre, kept-good (a .car) (a .message) (a .octets .now) _ (c .before .before .before .at-record .result) (c .before .before .before .at-record .ensures) (s .pre .car) (c .before .before .before .before .record-at .ensures .1) (λ i. c .before .before .before .before .before .before .before .before .before .before .before .before .before .before .before .before .before .shared-slice-known .given i .fits))
+    let a = c .before .before .before .before .before .before .before .before .before .before .before .before .before .before .before .before .before .before .before .before .args in
+    (c .before .before .before .before .before .before .before .before .before .before .before .before .before .before .before .before .before .before .before .before .pre, kept-good (a .car) (a .message) (a .octets .now) _ (c .before .before .before .before .at-record .result) (c .before .before .before .before .at-record .ensures) (c .before .before .before .before .before .before .before .before .before .before .before .before .before .before .before .before .before .before .before .before .pre .car) (c .before .before .before .before .before .record-at .ensures .1) (λ i. c .before .before .before .before .before .before .before .before .before .before .before .before .before .before .before .before .before .before .before .shared-slice-known .given i .fits))
 
 same-length : tie.Need-same-length
 same-length c = search needs
 
 returns-3 : tie.Need-returns-3
 returns-3 c =
-    let a = c .before .before .before .before .before .before .before .before .before .before .before .before .before .before .before .before .before .before .before .before .before .args in
-    let p = c .before .before .before .before .before .before .before .before .before .before .before .before .before in
-    comes-as _ _ (a .words .now) (a .sums .now) (a .out .now) _ _ _ (c .before .before .settle .result)
-    (takes-own (a .words .now) (a .sums .now) (a .car) _ (p .before .before .before .before .state-of .ensures) _ (p .before .before .enum-told .given .1) (p .find .result) (p .find .ensures) (a .message) (groupsOf (readRules (a .octets .now))) _ freeRecord _ _ (c .before .before .before .before .before .before .before .before .before .before .before .found .given .1) (c .before .before .before .before .before .before .before .record-at .ensures .0) (c .before .before .before .before .before .before .at-record .ensures .0 .effect))
+    let a = c .before .before .before .before .before .before .before .before .before .before .before .before .before .before .before .before .before .before .before .before .before .before .before .args in
+    comes-as _ _ (a .words .now) (a .sums .now) (a .spread .now) (a .out .now) _ _ _ _ (c .before .before .settle .result)
+    (takes-own (a .words .now) (a .sums .now) (a .spread .now) (a .car) _ (c .before .before .before .before .before .before .before .before .before .before .before .before .before .before .before .before .before .before .before .state-of .ensures) _ (c .before .before .before .before .before .before .before .before .before .before .before .before .before .before .before .before .before .enum-told .given .1) (c .before .before .before .before .before .before .before .before .before .before .before .before .before .before .before .find .result) (c .before .before .before .before .before .before .before .before .before .before .before .before .before .before .before .find .ensures) (a .message) (groupsOf (readRules (a .octets .now))) _ freeRecord _ _ (c .before .before .before .before .before .before .before .before .before .before .before .before .before .found .given .1) (c .before .before .before .before .before .before .before .before .record-at .ensures .0) (c .before .before .before .before .before .before .before .at-record .ensures .0 .effect))
     (c .before .before .settle .ensures)
 
 pub at-own-spec : {M : Type 1} → statement M

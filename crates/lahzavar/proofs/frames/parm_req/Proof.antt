@@ -18,7 +18,7 @@ refused-requires c κs = search needs
 returns : tie.Need-returns
 returns c =
     let a = c .before .before .before .before .before .args in
-    comes-refused _ WrongState (a .words .now) (a .sums .now) (a .out .now) (c .refused .result) (takes-none (a .words .now) (a .sums .now) (a .car) _ (c .before .before .state-of .ensures) _ (c .before .match .keys2)) (c .refused .ensures)
+    comes-refused _ WrongState (a .words .now) (a .sums .now) (a .spread .now) (a .out .now) (c .refused .result) (takes-none (a .words .now) (a .sums .now) (a .spread .now) (a .car) _ (c .before .before .state-of .ensures) _ (c .before .match .keys2)) (c .refused .ensures)
 
 find-requires : tie.Need-find-requires
 find-requires c κs = search needs
@@ -43,16 +43,14 @@ same-length c = search needs
 
 returns-2 : tie.Need-returns-2
 returns-2 c =
-    let a = c .before .before .before .before .before .before .before .before .before .before .before .before .before .before .before .before .before .before .args in
-    let p = c .before .before .before .before .before .before .before .before .before in
-    comes-as _ _ (a .words .now) (a .sums .now) (a .out .now) _ _ _ (c .before .before .admit .result) (sym (takes-parm (a .words .now) (a .sums .now) (a .car) _ (p .before .before .before .before .before .before .state-of .ensures) _ (p .before .before .before .before .state .given .1) (p .before .find .result) (p .before .find .ensures) (a .run) (p .place-for .result) _ (p .place-for .ensures) (c .before .before .before .before .before .before .before .admission .given .1))) (c .before .before .admit .ensures)
+    let a = c .before .before .before .before .before .before .before .before .before .before .before .before .before .before .before .before .before .before .before .args in
+    comes-as _ _ (a .words .now) (a .sums .now) (a .spread .now) (a .out .now) _ _ _ _ (c .before .before .admit .result) (sym (takes-parm (a .words .now) (a .sums .now) (a .spread .now) (a .car) _ (c .before .before .before .before .before .before .before .before .before .before .before .before .before .before .before .before .state-of .ensures) _ (c .before .before .before .before .before .before .before .before .before .before .before .before .before .before .state .given .1) (c .before .before .before .before .before .before .before .before .before .before .before .find .result) (c .before .before .before .before .before .before .before .before .before .before .before .find .ensures) (a .run) (c .before .before .before .before .before .before .before .before .before .before .place-for .result) _ (c .before .before .before .before .before .before .before .before .before .before .place-for .ensures) (c .before .before .before .before .before .before .before .before .admission .given .1))) (c .before .before .admit .ensures)
 
 returns-3 : tie.Need-returns-3
 returns-3 c =
     let a = c .before .before .before .before .before .before .before .before .before .before .before .before .before .args in
-    let p = c .before .before .before .before in
     let t = c .before .before .admission2 .given in
-    comes-refused _ (t .0 .0) (a .words .now) (a .sums .now) (a .out .now) (c .refused2 .result) (takes-parm (a .words .now) (a .sums .now) (a .car) _ (p .before .before .before .before .before .before .state-of .ensures) _ (p .before .before .before .before .state .given .1) (p .before .find .result) (p .before .find .ensures) (a .run) (p .place-for .result) _ (p .place-for .ensures) (t .1)) (c .refused2 .ensures)
+    comes-refused _ (t .0 .0) (a .words .now) (a .sums .now) (a .spread .now) (a .out .now) (c .refused2 .result) (takes-parm (a .words .now) (a .sums .now) (a .spread .now) (a .car) _ (c .before .before .before .before .before .before .before .before .before .before .state-of .ensures) _ (c .before .before .before .before .before .before .before .before .state .given .1) (c .before .before .before .before .before .find .result) (c .before .before .before .before .before .find .ensures) (a .run) (c .before .before .before .before .place-for .result) _ (c .before .before .before .before .place-for .ensures) (t .1)) (c .refused2 .ensures)
 
 pub parm-req-spec : {M : Type 1} → statement M
 parm-req-spec =

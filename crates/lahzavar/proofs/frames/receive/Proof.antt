@@ -30,18 +30,16 @@ enum-known-request c = search needs
 
 parm-req-requires : tie.Need-parm-req-requires
 parm-req-requires c κs =
-    let a = c .before .before .before .before .before .before .before .before .before .before .before .before .before .before .before .before .args in
-    let j = c .before .before .before .before .before .before .before .before .before in
-    frame-ready (a .words .now) (a .sums .now) (a .octets .now) (a .out .now) _ _ (j .judge .result) (j .before .before .before .config-of .ensures) (j .before .state-of .ensures) (j .judge .ensures) _ _ (c .before .before .before .before .before .before .before .judged2 .given .1)
+    let a = c .before .before .before .before .before .before .before .before .before .before .before .before .before .before .before .before .before .args in
+    frame-ready (a .words .now) (a .sums .now) (a .spread .now) (a .octets .now) (a .out .now) _ _ (c .before .before .before .before .before .before .before .before .before .before .judge .result) (c .before .before .before .before .before .before .before .before .before .before .before .before .before .config-of .ensures) (c .before .before .before .before .before .before .before .before .before .before .before .state-of .ensures) (c .before .before .before .before .before .before .before .before .before .before .judge .ensures) _ _ (c .before .before .before .before .before .before .before .before .judged2 .given .1)
 
 enum-known-request-2 : tie.Need-enum-known-request-2
 enum-known-request-2 c = search needs
 
 at-own-requires : tie.Need-at-own-requires
 at-own-requires c κs =
-    let a = c .before .before .before .before .before .before .before .before .before .before .before .before .before .before .before .before .args in
-    let j = c .before .before .before .before .before .before .before .before .before in
-    frame-ready (a .words .now) (a .sums .now) (a .octets .now) (a .out .now) _ _ (j .judge .result) (j .before .before .before .config-of .ensures) (j .before .state-of .ensures) (j .judge .ensures) _ _ (c .before .before .before .before .before .before .before .judged2 .given .1)
+    let a = c .before .before .before .before .before .before .before .before .before .before .before .before .before .before .before .before .before .args in
+    frame-ready (a .words .now) (a .sums .now) (a .spread .now) (a .octets .now) (a .out .now) _ _ (c .before .before .before .before .before .before .before .before .before .before .judge .result) (c .before .before .before .before .before .before .before .before .before .before .before .before .before .config-of .ensures) (c .before .before .before .before .before .before .before .before .before .before .before .state-of .ensures) (c .before .before .before .before .before .before .before .before .before .before .judge .ensures) _ _ (c .before .before .before .before .before .before .before .before .judged2 .given .1)
 
 by-value-requires : tie.Need-by-value-requires
 by-value-requires c κs = search needs
@@ -49,29 +47,26 @@ by-value-requires c κs = search needs
 returns : tie.Need-returns
 returns c =
     let a = c .before .before .before .before .before .before .before .before .before .before .before .args in
-    let j = c .before .before .before .before in
     let t = c .before .before .judged .given in
-    frame-lent (a .words .now) (a .sums .now) (a .octets .now) (a .out .now) _ _ (j .judge .result) (j .before .before .before .config-of .ensures) (j .before .state-of .ensures) (j .judge .ensures) _ _ _ _ (c .refused .result) (t .1) (comes-refused _ (t .0 .0) (a .words .now) (a .sums .now) (a .out .now) (c .refused .result) refl (c .refused .ensures))
+    frame-lent (a .words .now) (a .sums .now) (a .spread .now) (a .octets .now) (a .out .now) _ _ (c .before .before .before .before .judge .result) (c .before .before .before .before .before .before .before .config-of .ensures) (c .before .before .before .before .before .state-of .ensures) (c .before .before .before .before .judge .ensures) _ _ _ _ _ (c .refused .result) (t .1) (comes-refused _ (t .0 .0) (a .words .now) (a .sums .now) (a .spread .now) (a .out .now) (c .refused .result) refl (c .refused .ensures))
 
 same-length : tie.Need-same-length
 same-length c = search needs
 
 returns-2 : tie.Need-returns-2
 returns-2 c =
-    let a = c .before .before .before .before .before .before .before .before .before .before .before .before .before .before .before .before .before .before .before .args in
-    let j = c .before .before .before .before .before .before .before .before .before .before .before .before in
-    let t = c .before .before .before .before .before .before .before .before .before .before .judged2 .given in
-    frame-lent (a .words .now) (a .sums .now) (a .octets .now) (a .out .now) _ _ (j .judge .result) (j .before .before .before .config-of .ensures) (j .before .state-of .ensures) (j .judge .ensures) _ _ _ _ (c .before .before .parm-req .result) (t .1 ∙ ap (λ (q : Request). Taken (t .0 .0) q) (c .before .before .before .before .before .before .before .request .given .1)) (c .before .before .parm-req .ensures)
+    let a = c .before .before .before .before .before .before .before .before .before .before .before .before .before .before .before .before .before .before .before .before .args in
+    let t = c .before .before .before .before .before .before .before .before .before .before .before .judged2 .given in
+    frame-lent (a .words .now) (a .sums .now) (a .spread .now) (a .octets .now) (a .out .now) _ _ (c .before .before .before .before .before .before .before .before .before .before .before .before .before .judge .result) (c .before .before .before .before .before .before .before .before .before .before .before .before .before .before .before .before .config-of .ensures) (c .before .before .before .before .before .before .before .before .before .before .before .before .before .before .state-of .ensures) (c .before .before .before .before .before .before .before .before .before .before .before .before .before .judge .ensures) _ _ _ _ _ (c .before .before .parm-req .result) (t .1 ∙ ap (λ (q : Request). Taken (t .0 .0) q) (c .before .before .before .before .before .before .before .before .request .given .1)) (c .before .before .parm-req .ensures)
 
 same-length-2 : tie.Need-same-length-2
 same-length-2 c = search needs
 
 returns-3 : tie.Need-returns-3
 returns-3 c =
-    let a = c .before .before .before .before .before .before .before .before .before .before .before .before .before .before .before .before .before .before .before .args in
-    let j = c .before .before .before .before .before .before .before .before .before .before .before .before in
-    let t = c .before .before .before .before .before .before .before .before .before .before .judged2 .given in
-    frame-lent (a .words .now) (a .sums .now) (a .octets .now) (a .out .now) _ _ (j .judge .result) (j .before .before .before .config-of .ensures) (j .before .state-of .ensures) (j .judge .ensures) _ _ _ _ (c .before .before .at-own .result) (t .1 ∙ ap (λ (q : Request). Taken (t .0 .0) q) (c .before .before .before .before .before .before .before .request2 .given .1)) (c .before .before .at-own .ensures)
+    let a = c .before .before .before .before .before .before .before .before .before .before .before .before .before .before .before .before .before .before .before .before .args in
+    let t = c .before .before .before .before .before .before .before .before .before .before .before .judged2 .given in
+    frame-lent (a .words .now) (a .sums .now) (a .spread .now) (a .octets .now) (a .out .now) _ _ (c .before .before .before .before .before .before .before .before .before .before .before .before .before .judge .result) (c .before .before .before .before .before .before .before .before .before .before .before .before .before .before .before .before .config-of .ensures) (c .before .before .before .before .before .before .before .before .before .before .before .before .before .before .state-of .ensures) (c .before .before .before .before .before .before .before .before .before .before .before .before .before .judge .ensures) _ _ _ _ _ (c .before .before .at-own .result) (t .1 ∙ ap (λ (q : Request). Taken (t .0 .0) q) (c .before .before .before .before .before .before .before .before .request2 .given .1)) (c .before .before .at-own .ensures)
 
 same-length-3 : tie.Need-same-length-3
 same-length-3 c = search needs

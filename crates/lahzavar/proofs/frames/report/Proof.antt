@@ -36,7 +36,7 @@ report-requires : tie.Need-report-requires
 report-requires c κs = search needs
 
 values-requires : tie.Need-values-requires
-values-requires c κs = subst GoodRecord (sym (c .before .before .before .owned .ensures)) (c .before .before .before .before .before .before .before .pre .1)
+values-requires c κs = subst GoodRecord (sym (c .before .before .before .before .owned .ensures)) (c .before .before .before .before .before .before .before .before .pre .1)
 
 -- the run is a 64-bit number
 run-fits : (c : tie.Start) → c .args .left .run .0 < 2 ^ 64
@@ -53,11 +53,10 @@ groups-fit c = search needs
 sent-requires : tie.Need-sent-requires
 unfolding owned
 sent-requires c κs =
-    let s = c .before .before .before .before .before .before .before .before .before in
-    let a = s .args in (
-      subst GoodRecord (sym (c .before .before .before .before .before .owned .ensures)) (s .pre .1),
-      writable-as _ _ (length (a .out .now)) (ap (messageOf (c .before .before .before .before .report .result)) (c .before .values .ensures) ∙ c .before .before .before .before .report .ensures ∙ ap₂ (λ (o : Configuration) (k : Record). messageTo o (a .car) (reportOf k)) (config-here (a .words .now) (a .sums .now) (a .car) _ (c .before .before .before .before .before .before .config-of .ensures)) (c .before .before .before .before .before .owned .ensures))
-          (report-writable ((stationOf (a .words .now) (a .sums .now)) .config) (a .car) (length (a .out .now)) (s .pre .0 .kept .config .address (s .pre .0 .good)) (s .pre .0 .car) (owned (a .car) (a .left)) (run-fits s) (count-fits s) (groups-fit s) (omega (arith, s .pre .0 .room))),
+    let a = c .before .before .before .before .before .before .before .before .before .before .args in (
+      subst GoodRecord (sym (c .before .before .before .before .before .before .owned .ensures)) (c .before .before .before .before .before .before .before .before .before .before .pre .1),
+      writable-as _ _ (length (a .out .now)) (ap (messageOf (c .before .before .before .before .before .report .result)) (c .before .values .ensures) ∙ c .before .before .before .before .before .report .ensures ∙ ap₂ (λ (o : Configuration) (k : Record). messageTo o (a .car) (reportOf k)) (config-here (a .words .now) (a .sums .now) (a .spread .now) (a .car) _ (c .before .before .before .before .before .before .before .config-of .ensures)) (c .before .before .before .before .before .before .owned .ensures))
+          (report-writable ((stationOf (a .words .now) (a .sums .now) (a .spread .now)) .config) (a .car) (length (a .out .now)) (c .before .before .before .before .before .before .before .before .before .before .pre .0 .kept .config .address (c .before .before .before .before .before .before .before .before .before .before .pre .0 .good)) (c .before .before .before .before .before .before .before .before .before .before .pre .0 .car) (owned (a .car) (a .left)) (run-fits (c .before .before .before .before .before .before .before .before .before .before)) (count-fits (c .before .before .before .before .before .before .before .before .before .before)) (groups-fit (c .before .before .before .before .before .before .before .before .before .before)) (omega (arith, c .before .before .before .before .before .before .before .before .before .before .pre .0 .room))),
     )
 
 same-length : tie.Need-same-length
@@ -66,10 +65,10 @@ same-length c = search needs
 returns : tie.Need-returns
 unfolding frameTo
 returns c =
-    let a = c .before .before .before .before .before .before .before .before .before .before .before .before .args in
-    comes-as _ _ (a .words .now) (a .sums .now) (a .out .now) _ _ _ (c .before .before .sent .result)
-    (ap₂ (λ (k : Record) (m : table.Message). yes (done ((stationOf (a .words .now) (a .sums .now)) .state) (set ((stationOf (a .words .now) (a .sums .now)) .records) (a .i) k) (writing.frame m ∷ []) Nothing)) (c .before .before .before .before .before .before .before .before .owned .ensures) (ap (messageOf (c .before .before .before .before .before .before .before .report .result)) (c .before .before .before .before .values .ensures) ∙ c .before .before .before .before .before .before .before .report .ensures ∙ ap₂ (λ (o : Configuration) (k : Record). messageTo o (a .car) (reportOf k)) (config-here (a .words .now) (a .sums .now) (a .car) _ (c .before .before .before .before .before .before .before .before .before .config-of .ensures)) (c .before .before .before .before .before .before .before .before .owned .ensures))
-    ∙ settled-report (stationOf (a .words .now) (a .sums .now)) (a .i) (a .car) (a .left))
+    let a = c .before .before .before .before .before .before .before .before .before .before .before .before .before .args in
+    comes-as _ _ (a .words .now) (a .sums .now) (a .spread .now) (a .out .now) _ _ _ _ (c .before .before .sent .result)
+    (ap₂ (λ (k : Record) (m : table.Message). yes (done ((stationOf (a .words .now) (a .sums .now) (a .spread .now)) .state) (set ((stationOf (a .words .now) (a .sums .now) (a .spread .now)) .records) (a .i) k) (writing.frame m ∷ []) Nothing)) (c .before .before .before .before .before .before .before .before .before .owned .ensures) (ap (messageOf (c .before .before .before .before .before .before .before .before .report .result)) (c .before .before .before .before .values .ensures) ∙ c .before .before .before .before .before .before .before .before .report .ensures ∙ ap₂ (λ (o : Configuration) (k : Record). messageTo o (a .car) (reportOf k)) (config-here (a .words .now) (a .sums .now) (a .spread .now) (a .car) _ (c .before .before .before .before .before .before .before .before .before .before .config-of .ensures)) (c .before .before .before .before .before .before .before .before .before .owned .ensures))
+    ∙ settled-report (stationOf (a .words .now) (a .sums .now) (a .spread .now)) (a .i) (a .car) (a .left))
     (c .before .before .sent .ensures)
 
 pub report-spec : {M : Type 1} → statement M

@@ -18,10 +18,9 @@ same-length c = search needs
 
 returns : tie.Need-returns
 returns c =
-    let s = c .before .before .before .before .before .before .before .before .before in
-    let a = s .args in
+    let a = c .before .before .before .before .before .before .before .before .before .before .args in
     let sent = c .before .before .before .send in
-    comes-sent (a .words .now) (a .sums .now) (a .out .now) _ _ _ (a .i) (a .r) _ (sent .result) (c .answered .result) (s .pre .1) (c .before .before .before .before .before .put-record .ensures) (sent .ensures) (c .answered .ensures)
+    comes-sent (a .words .now) (a .sums .now) (a .spread .now) (a .out .now) _ _ _ _ (a .i) (a .r) _ (sent .result) (c .answered .result) (c .before .before .before .before .before .before .before .before .before .before .pre .1) (c .before .before .before .before .before .put-record .ensures) (sent .ensures) (c .answered .ensures)
 
 pub sent-spec : {M : Type 1} → statement M
 sent-spec = tie.close (tie.spec put-record-requires send-requires answered-requires same-length returns)

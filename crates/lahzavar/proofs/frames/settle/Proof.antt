@@ -30,9 +30,8 @@ owned-requires c κs = search needs
 
 put-record-requires : tie.Need-put-record-requires
 put-record-requires c κs =
-    let s = c .before .before .before .before .before .before .before in
-    let a = s .args in
-    subst GoodRecord (sym (c .owned .ensures)) (subst (λ (x : Effect). KeepsGood (a .car) (effectOf (a .kept .kept) x)) (c .before .before .before .enum-told .given .1) (s .pre .1))
+    let a = c .before .before .before .before .before .before .before .before .args in
+    subst GoodRecord (sym (c .owned .ensures)) (subst (λ (x : Effect). KeepsGood (a .car) (effectOf (a .kept .kept) x)) (c .before .before .before .before .enum-told .given .1) (c .before .before .before .before .before .before .before .before .pre .1))
 
 answered-requires : tie.Need-answered-requires
 answered-requires c κs = search needs
@@ -42,29 +41,28 @@ enum-told-2 c = search needs
 
 report-requires : tie.Need-report-requires
 report-requires c κs =
-    let s = c .before .before .before .before .before .before .before in
-    let a = s .args in
-    (s .pre .0, subst (λ (x : Effect). KeepsGood (a .car) (effectOf (a .kept .kept) x)) (c .before .before .before .enum-told2 .given .1) (s .pre .1))
+    let a = c .before .before .before .before .before .before .before .before .args in
+    (c .before .before .before .before .before .before .before .before .pre .0, subst (λ (x : Effect). KeepsGood (a .car) (effectOf (a .kept .kept) x)) (c .before .before .before .before .enum-told2 .given .1) (c .before .before .before .before .before .before .before .before .pre .1))
 
 returns : tie.Need-returns
 returns c =
     let a = c .before .before .before .before .before .before .args in
-    comes-refused _ (c .before .before .effect .given .0 .0) (a .words .now) (a .sums .now) (a .out .now) (c .refused .result) (ap (λ (x : Effect). settled (stationOf (a .words .now) (a .sums .now)) (a .i) (a .car) (effectOf (a .kept .kept) x)) (c .before .before .effect .given .1)) (c .refused .ensures)
+    comes-refused _ (c .before .before .effect .given .0 .0) (a .words .now) (a .sums .now) (a .spread .now) (a .out .now) (c .refused .result) (ap (λ (x : Effect). settled (stationOf (a .words .now) (a .sums .now) (a .spread .now)) (a .i) (a .car) (effectOf (a .kept .kept) x)) (c .before .before .effect .given .1)) (c .refused .ensures)
 
 returns-2 : tie.Need-returns-2
 returns-2 c =
-    let a = c .before .before .before .before .before .before .before .before .before .args in
-    comes-as _ _ (a .words .now) (a .sums .now) (a .out .now) _ _ _ (c .answered .result)
-    (ap (λ (k : Record). yes (done ((stationOf (a .words .now) (a .sums .now)) .state) (set ((stationOf (a .words .now) (a .sums .now)) .records) (a .i) k) [] Nothing)) (c .before .before .owned .ensures) ∙ sym (ap (λ (x : Effect). settled (stationOf (a .words .now) (a .sums .now)) (a .i) (a .car) (effectOf (a .kept .kept) x)) (c .before .before .before .before .before .enum-told .given .1)))
-    (comes-silent (a .words .now) (a .sums .now) (a .out .now) _ _ (a .i) _ (c .answered .result) (c .before .put-record .ensures) (c .answered .ensures))
+    let a = c .before .before .before .before .before .before .before .before .before .before .args in
+    comes-as _ _ (a .words .now) (a .sums .now) (a .spread .now) (a .out .now) _ _ _ _ (c .answered .result)
+    (ap (λ (k : Record). yes (done ((stationOf (a .words .now) (a .sums .now) (a .spread .now)) .state) (set ((stationOf (a .words .now) (a .sums .now) (a .spread .now)) .records) (a .i) k) [] Nothing)) (c .before .before .owned .ensures) ∙ sym (ap (λ (x : Effect). settled (stationOf (a .words .now) (a .sums .now) (a .spread .now)) (a .i) (a .car) (effectOf (a .kept .kept) x)) (c .before .before .before .before .before .before .enum-told .given .1)))
+    (comes-silent (a .words .now) (a .sums .now) (a .spread .now) (a .out .now) _ _ _ (a .i) _ (c .answered .result) (c .before .put-record .ensures) (c .answered .ensures))
 
 same-length : tie.Need-same-length
 same-length c = search needs
 
 returns-3 : tie.Need-returns-3
 returns-3 c =
-    let a = c .before .before .before .before .before .before .before .before .before .before .args in
-    comes-as _ _ (a .words .now) (a .sums .now) (a .out .now) _ _ _ (c .before .before .report .result) (sym (ap (λ (x : Effect). settled (stationOf (a .words .now) (a .sums .now)) (a .i) (a .car) (effectOf (a .kept .kept) x)) (c .before .before .before .before .before .before .enum-told2 .given .1))) (c .before .before .report .ensures)
+    let a = c .before .before .before .before .before .before .before .before .before .before .before .args in
+    comes-as _ _ (a .words .now) (a .sums .now) (a .spread .now) (a .out .now) _ _ _ _ (c .before .before .report .result) (sym (ap (λ (x : Effect). settled (stationOf (a .words .now) (a .sums .now) (a .spread .now)) (a .i) (a .car) (effectOf (a .kept .kept) x)) (c .before .before .before .before .before .before .before .enum-told2 .given .1))) (c .before .before .report .ensures)
 
 pub settle-spec : {M : Type 1} → statement M
 settle-spec =

@@ -8,13 +8,13 @@ configure-requires : tie.Need-configure-requires
 configure-requires c κs = search needs
 
 pack-requires : tie.Need-pack-requires
-pack-requires c κs = c .before .before .before .configure .ensures .kept
+pack-requires c κs = c .before .before .before .before .configure .ensures .kept
 
 answered-requires : tie.Need-answered-requires
 answered-requires c κs = search needs
 
 returns : tie.Need-returns
-returns c = configured-lent _ _ _ _ _ _ _ _ _ (c .before .before .before .before .before .configure .ensures) (c .before .pack .ensures) (c .answered .ensures)
+returns c = configured-lent _ _ _ _ _ _ _ _ _ _ (c .before .before .before .before .before .before .configure .ensures) (c .before .pack .ensures) (c .answered .ensures)
 
 pub configure-spec : {M : Type 1} → statement M
 configure-spec = tie.close (tie.spec configure-requires pack-requires answered-requires returns)

@@ -25,7 +25,7 @@ shared-slice-read-t8 c = search needs
 returns : tie.Need-returns
 returns c =
     let a = c .before .args in
-    λ s. sym (ap (λ (n : ℕ). let x : CarAddress = record { 0 = n } in x) (car-at (a .words .now) s (a .i) _ (c .before .pre .0)))
+    λ s x. sym (ap (λ (n : ℕ). let x : CarAddress = record { 0 = n } in x) (car-at (a .words .now) s x (a .i) _ (c .before .pre .0)))
 
 pub car-at-spec : {M : Type 1} → statement M
 car-at-spec = tie.close (tie.spec mul-t3 add-t4 add-t5 mul-t6 shared-slice-read-t8 returns)

@@ -32,7 +32,7 @@ is-unicast-requires c κs = search needs
 returns : tie.Need-returns
 returns c =
     let a = c .before .before .before .before .args in
-    λ s. rw (c .is-unicast .ensures) (sym (held-at (a .words .now) s (a .i) _ (c .before .before .before .before .pre .0)))
+    λ s x. rw (c .is-unicast .ensures) (sym (held-at (a .words .now) s x (a .i) _ (c .before .before .before .before .pre .0)))
 
 pub is-held-spec : {M : Type 1} → statement M
 is-held-spec =

@@ -1,7 +1,7 @@
 -- `words::one_record::read` meets its contract: read field by field, it is the record at its place.
 use Rattle.words.proofs.RecordWords.{read-is}
-use borrow.Author.Needs.{needs}
 use mathlib.Core.Path.{refl}
+use borrow.Author.Needs.{needs}
 use Rattle.words.proofs.one_record.read.Statement.{statement}
 use Rattle.words.proofs.one_record.read.Tie as tie
 
@@ -77,20 +77,26 @@ mul-sums-at c = search needs
 sums-at-requires : tie.Need-sums-at-requires
 sums-at-requires c κs = search needs
 
-add-t12 : tie.Need-add-t12
-add-t12 c = search needs
+mul-spread-at : tie.Need-mul-spread-at
+mul-spread-at c = search needs
 
-mul-t11 : tie.Need-mul-t11
-mul-t11 c = search needs
+spread-at-requires : tie.Need-spread-at-requires
+spread-at-requires c κs = search needs
 
-shared-slice-read-t22 : tie.Need-shared-slice-read-t22
-shared-slice-read-t22 c = search needs
+add-t13 : tie.Need-add-t13
+add-t13 c = search needs
+
+mul-t14 : tie.Need-mul-t14
+mul-t14 c = search needs
+
+shared-slice-read-t24 : tie.Need-shared-slice-read-t24
+shared-slice-read-t24 c = search needs
 
 returns : tie.Need-returns
 returns c =
-    let s = c .before .before .before .before .before .before .before .before .before .before .before .before .before .before in
+    let s = c .before .before .before .before .before .before .before .before .before .before .before .before .before .before .before .before in
     let a = s .args in
-    read-is (a .words .now) (a .sums .now) (a .i) _ (s .pre .0) _ (c .before .before .before .before .before .before .before .before .before .before .before .is-held .ensures (a .sums .now)) (c .before .before .before .before .before .before .before .before .before .before .car-at .ensures (a .sums .now)) refl (c .before .before .before .before .before .before .phase .ensures) (c .before .before .before .before .heard .ensures) (c .before .before .profiles .ensures) (c .before .sums-at .ensures)
+    read-is (a .words .now) (a .sums .now) (a .spread .now) (a .i) _ (s .pre .0) _ (c .before .before .before .before .before .before .before .before .before .before .before .before .is-held .ensures (a .sums .now) (a .spread .now)) (c .before .before .before .before .before .before .before .before .before .before .before .car-at .ensures (a .sums .now) (a .spread .now)) refl (c .before .before .before .before .before .before .before .phase .ensures) (c .before .before .before .before .before .heard .ensures) (c .before .before .before .profiles .ensures) (c .before .before .sums-at .ensures) (c .before .spread-at .ensures)
 
 pub read-spec : {M : Type 1} → statement M
 read-spec =
@@ -120,7 +126,9 @@ read-spec =
     profiles-requires
     mul-sums-at
     sums-at-requires
-    add-t12
-    mul-t11
-    shared-slice-read-t22
+    mul-spread-at
+    spread-at-requires
+    add-t13
+    mul-t14
+    shared-slice-read-t24
     returns)

@@ -1,12 +1,14 @@
--- `words::one_record::store` meets its contract: the words and sums put in place are the record put in place.
+-- `words::one_record::store` meets its contract: the words, sums and spread put in place are the record put in place.
 use Rattle.messages.specs.Table.{groupCount}
 use Rattle.ends.proofs.ListLaws.{length-mapped}
+use Rattle.words.proofs.CopyLaws.{Sized}
 use Rattle.words.proofs.HeadWords.{stored, not-stored}
-use Rattle.words.specs.Words.{stationOf}
-use borrow.Author.Needs.{needs}
+use Rattle.words.proofs.RecordWords.{place}
 use lib.ListN.{length}
-use mathlib.Core.Path.{_≡_, refl, ap₂, _∙_}
+use lib.Seq.{sets}
+use mathlib.Core.Path.{_≡_, ap, _∙_}
 use native.Mathlib.Omega.{arith}
+use borrow.Author.Needs.{needs}
 use Rattle.words.proofs.one_record.store.Statement.{statement}
 use Rattle.words.proofs.one_record.store.Tie as tie
 
@@ -14,10 +16,14 @@ use Rattle.words.proofs.one_record.store.Tie as tie
 sum-count : (c : tie.Start) → length (c .args .r .sums) ≡ groupCount
 sum-count c = search (needs, length-mapped)
 
+-- and a least and a greatest value
+sized : (c : tie.Start) → Sized (c .args .r .spread)
+sized c = record { least = search (needs, length-mapped); greatest = search (needs, length-mapped) }
+
 returns : tie.Need-returns
 returns c =
-    let a = c .before .before .before .args in
-    not-stored (a .words .now) (a .sums .now) (a .i) (a .r) (c .before .before .before .pre .0) (c .if1 .taken)
+    let a = c .before .before .before .before .args in
+    not-stored (a .words .now) (a .sums .now) (a .spread .now) (a .i) (a .r) (c .before .before .before .before .pre .0) (c .if1 .taken)
 
 record-words-requires : tie.Need-record-words-requires
 record-words-requires c κs = search needs
@@ -41,7 +47,13 @@ mul-put-sums : tie.Need-mul-put-sums
 mul-put-sums c = search needs
 
 put-sums-requires : tie.Need-put-sums-requires
-put-sums-requires c κs = omega (arith, sum-count (c .before .before .before .before .before .before .before .before .before .before .before .before))
+put-sums-requires c κs = omega (arith, sum-count (c .before .before .before .before .before .before .before .before .before .before .before .before .before))
+
+mul-put-spread : tie.Need-mul-put-spread
+mul-put-spread c = search needs
+
+put-spread-requires : tie.Need-put-spread-requires
+put-spread-requires c κs = search needs
 
 same-length : tie.Need-same-length
 same-length c = search needs
@@ -49,12 +61,17 @@ same-length c = search needs
 same-length-2 : tie.Need-same-length-2
 same-length-2 c = search needs
 
+same-length-3 : tie.Need-same-length-3
+same-length-3 c = search needs
+
 returns-2 : tie.Need-returns-2
 returns-2 c =
-    let s = c .before .before .before .before .before .before .before .before .before .before .before .before .before .before .before in
+    let s = c .before .before .before .before .before .before .before .before .before .before .before .before .before .before .before .before .before .before .before .before .before in
     let a = s .args in
-    ap₂ stationOf (c .before .before .before .before .before .before .before .before .put-words .ensures) (c .before .before .put-sums .ensures)
-    ∙ stored (a .words .now) (a .sums .now) (a .i) (a .r) (s .pre .0) (omega arith) (s .pre .1 .0) (s .pre .1 .1) _ _ (c .before .before .before .before .before .before .before .before .before .before .before .record-words .ensures) refl (sum-count s)
+    stored (a .words .now) (a .sums .now) (a .spread .now) (a .i) (a .r) (s .pre .0) (omega (arith, c .before .before .before .before .before .before .before .before .before .before .before .before .before .before .before .before .before .if1 .left)) (s .pre .1 .0) (s .pre .1 .1 .0) (s .pre .1 .1 .1) (sum-count s) (sized s) _ _ _
+    (c .before .before .before .before .before .before .before .before .before .before .before .before .before .put-words .ensures ∙ ap (sets (a .words .now) (place (a .i))) (c .before .before .before .before .before .before .before .before .before .before .before .before .before .before .before .before .record-words .ensures))
+    (c .before .before .before .before .before .before .before .put-sums .ensures)
+    (c .before .before .put-spread .ensures)
 
 pub store-spec : {M : Type 1} → statement M
 store-spec =
@@ -69,6 +86,9 @@ store-spec =
     slice-aggregate-put-sums
     mul-put-sums
     put-sums-requires
+    mul-put-spread
+    put-spread-requires
     same-length
     same-length-2
+    same-length-3
     returns-2)

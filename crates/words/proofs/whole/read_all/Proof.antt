@@ -8,10 +8,10 @@ use Rattle.words.proofs.whole.read_all.Statement.{statement}
 use Rattle.words.proofs.whole.read_all.Tie as tie
 
 abbrev Inv-loop : tie.InvT-loop
-Inv-loop words sums rs₀ i₀ rs i = ReadSo words sums rs i
+Inv-loop words sums spread rs₀ i₀ rs i = ReadSo words sums spread rs i
 
 abbrev μ-loop : tie.MeasureT-loop
-μ-loop words sums rs₀ i₀ rs i = recordCount - i
+μ-loop words sums spread rs₀ i₀ rs i = recordCount - i
 
 read-requires : tie.Need-read-requires Inv-loop μ-loop
 read-requires c κs = search needs
@@ -36,12 +36,12 @@ loop-less c = search needs
 
 loop-again : tie.Need-loop-again Inv-loop μ-loop
 loop-again c =
-    let s = c .before .before .before .before .before .before in
+    let s = c .before .before .before .before .before .before .before in
     let l = c .before .before .loop in
-    read-next (s .args .words .now) (s .args .sums .now) (l .rs) (l .i) (l .inv) _ _ (omega arith) (c .read2 .ensures)
+    read-next (s .args .words .now) (s .args .sums .now) (s .args .spread .now) (l .rs) (l .i) (l .inv) _ _ (omega arith) (c .read2 .ensures)
 
 returns : tie.Need-returns Inv-loop μ-loop
-returns c = read-end _ _ _ _ (c .before .loop .inv) (c .loop-test .left)
+returns c = read-end _ _ _ _ _ (c .before .loop .inv) (c .loop-test .left)
 
 pub read-all-spec : {M : Type 1} → statement M
 read-all-spec =

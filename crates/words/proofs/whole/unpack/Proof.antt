@@ -1,4 +1,4 @@
--- `words::whole::unpack` meets its contract: any words and sums mean a station with the invariant.
+-- `words::whole::unpack` meets its contract: any words, sums and spread mean a station with the invariant.
 use Rattle.words.proofs.Meant.{unpacked}
 use borrow.Author.Needs.{needs}
 use Rattle.words.proofs.whole.unpack.Statement.{statement}
@@ -21,8 +21,8 @@ read-all-requires c κs = search needs
 
 returns : tie.Need-returns
 returns c =
-    let a = c .before .before .before .before .before .before .before .args in
-    unpacked (a .words .now) (a .sums .now) _ (c .before .before .before .before .config .ensures) (c .before .before .before .state .ensures) (c .before .before .pilot .ensures) (c .before .clock .ensures) (c .read-all .ensures)
+    let a = c .before .before .before .before .before .before .before .before .args in
+    unpacked (a .words .now) (a .sums .now) (a .spread .now) _ (c .before .before .before .before .config .ensures) (c .before .before .before .state .ensures) (c .before .before .pilot .ensures) (c .before .clock .ensures) (c .read-all .ensures)
 
 pub unpack-spec : {M : Type 1} → statement M
 unpack-spec =
