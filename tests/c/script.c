@@ -20,15 +20,17 @@ static void configure(void)
     put_number(answer.refusal);
 }
 
-static void put_heard(struct lahzavar_heard heard)
+/* The query's reply: the number of sounds, then the least and the greatest value of each group. */
+static void put_queried(uint64_t car)
 {
-    int given = heard.refusal == LAHZAVAR_ACCEPTED;
-    put_number(heard.refusal);
-    put_number(LAHZAVAR_NO_INDICATION);
-    put_number(given ? 4 : 0);
-    if (given) {
-        put_number(heard.sounds);
+    uint8_t octets[4 + 2 * LAHZAVAR_GROUPS];
+    uint8_t *least = octets + 4, *greatest = least + LAHZAVAR_GROUPS;
+    struct lahzavar_heard heard = lahzavar_station_query(&station, car, least, greatest);
+    int at;
+    for (at = 0; at < 4; at++) {
+        octets[at] = (uint8_t)(heard.sounds >> 8 * at & 0xFF);
     }
+    put_reply(heard.refusal, LAHZAVAR_NO_INDICATION, octets, heard.refusal == LAHZAVAR_ACCEPTED ? sizeof octets : 0);
 }
 
 static void happen(const struct event *event)
@@ -50,7 +52,7 @@ static void happen(const struct event *event)
         put_answer(lahzavar_station_link_up(&station));
         break;
     case QUERY:
-        put_heard(lahzavar_station_sounds_heard(&station, lahzavar_address(event->octets)));
+        put_queried(lahzavar_address(event->octets));
         break;
     default:
         fail("an unknown kind of event");

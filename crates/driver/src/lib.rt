@@ -1,16 +1,15 @@
 // A charging station's calls in place: each is lent the station and stores the one that the call by value returned.
 use ends::Answer;
 use messages::CarAddress;
-use rules::HeardAnswer;
 use rules::Pilot;
+use rules::Queried;
 use rules::Station;
-ghost use mathlib.Core.Path.{_≡_};
 ghost use mathlib.Core.List.{[]};
 ghost use lib.ListN.{length};
 ghost use Rattle.rules.specs.Calls as calls;
 ghost use Rattle.rules.specs.Invariant.{Invariant};
-ghost use Rattle.rules.specs.Rules.{soundsHeard};
-ghost use Rattle.rules.specs.Answers.{heardOf};
+ghost use Rattle.rules.specs.Rules as rules;
+ghost use Rattle.rules.specs.Answers.{Tells};
 ghost use Rattle.driver.specs.InPlace.{InPlace};
 
 // A frame was received: its reply stands from the output's first octet.
@@ -63,9 +62,9 @@ pub fn link_up(s: &mut Station) -> Answer
     r.answer
 }
 
-// The service query: how many sounds a car's run has heard.
-pub fn sounds_heard(s: &Station, car: CarAddress) -> HeardAnswer
-    ensures { λ r. ⌜ heardOf r ≡ soundsHeard (now (s .entry)) car ⌝ }
+// The service query: how many sounds a car's run has heard, and the least and greatest value of each group.
+pub fn query(s: &Station, car: CarAddress) -> Queried
+    ensures { λ q. ⌜ Tells (rules.query (now (s .entry)) car) q ⌝ }
 {
-    rules::sounds_heard(*s, car)
+    rules::query(*s, car)
 }

@@ -1,16 +1,24 @@
 -- Replies, from what the functions write one behind the other.
-use Prim.Native.Nat.{ℕ, _+_, _≤_}
+use Prim.Native.Nat.{ℕ, _+_, _*_, _≤_}
 use mathlib.Core.Path.{_≡_, refl, sym, ap, ap₂, _∙_}
 use mathlib.Core.List.{List, [], _++_, append-nil}
 use native.Mathlib.Omega.{arith}
 use lib.ListN.{length, length-append}
-use lib.Seq.{sets}
-use Rattle.octets.specs.Octets.{bytes, lowBytes, splice}
-use Rattle.messages.specs.Reading.{no}
+use lib.Seq.{sets, take-all}
+use Rattle.octets.specs.Octets.{bytes, lowBytes, part, splice}
+use Rattle.octets.proofs.OctetLaws.{length-low, sets-append}
+use Rattle.messages.specs.Answers.{numberOf}
+use Rattle.messages.specs.Reading.{Checked, no, yes}
+use Rattle.messages.specs.Table.{groupCount}
+use Rattle.messages.specs.declared.Refusal.{Refusal}
+use Rattle.rules.specs.declared.HeardAnswer.the-variants.{Refused, Heard}
+use Rattle.rules.specs.declared.Queried.{Queried}
+use Rattle.rules.specs.Rules.{Told}
+use Rattle.rules.specs.Answers.{Tells}
 use Rattle.car_rules.specs.declared.Key.{Key}
 use Rattle.script.specs.Events.{mostOctets}
-use Rattle.script.specs.Replies.{replyOctets, longestReply, replyHead, replyWith, keyOctets}
-use Rattle.script.specs.Private.{Answered, Replied}
+use Rattle.script.specs.Replies.{number, replyOctets, longestReply, replyHead, replyWith, toldOctets, keyOctets}
+use Rattle.script.specs.Private.{Answered, toldBy, Replied}
 use Rattle.script.proofs.OutputLaws.{length-head, put-behind}
 
 module _ (n : ℕ) {k : ℕ} {entry exit : List ℕ} (h : Replied (replyHead n 0 0) entry exit k) where
@@ -34,6 +42,38 @@ told-replied ws {k} {entry} e few long m h =
           ∙ put-behind entry (replyHead 0 0 k) ws replyOctets (length-head 0 0 k) (omega arith)
           ∙ ap (λ (l : List ℕ). splice 0 l entry) whole;
     }
+
+-- what the service query promises is what its answer tells
+pub told-by : (x : Checked Told) (q : Queried) → Tells x q → toldBy q ≡ x
+told-by (no n) q h = rw (h .heard)
+told-by (yes t) q h = rw (h .heard, h .spread)
+
+-- what the service query's answer tells, by its cases
+module _ (q : Queried) where
+  pub told-refused : (x : Refusal) → q .heard ≡ Refused x → toldBy q ≡ no (numberOf x)
+  told-refused x e = rw e
+
+  pub told-heard : (n : ℕ) → q .heard ≡ Heard n → toldBy q ≡ yes (record { sounds = n; spread = q .spread })
+  told-heard n e = rw e
+
+-- what the service query tells, where each group has its values
+module _ (t : Told) (least : length (t .spread .least) ≡ groupCount) (greatest : length (t .spread .greatest) ≡ groupCount) where
+  -- one run behind the other
+  pub told-put : (d : List ℕ)
+      → sets (sets (sets d replyOctets (number (t .sounds))) (replyOctets + 4) (part (t .spread .least) 0 groupCount)) (replyOctets + 4 + groupCount) (part (t .spread .greatest) 0 groupCount) ≡ sets d replyOctets (toldOctets t)
+  told-put d =
+      let sounds : List ℕ = sets d replyOctets (number (t .sounds)) in
+      let whole : (l : List ℕ) → length l ≡ groupCount → part l 0 groupCount ≡ l = λ l e. take-all groupCount l (omega arith) in
+      ap₂ (λ (l m : List ℕ). sets (sets sounds (replyOctets + 4) l) (replyOctets + 4 + groupCount) m) (whole (t .spread .least) least) (whole (t .spread .greatest) greatest)
+      ∙ ap (λ (k : ℕ). sets (sets sounds (replyOctets + 4) (t .spread .least)) (replyOctets + 4 + k) (t .spread .greatest)) (sym least)
+      ∙ sym (sets-append (t .spread .least) (t .spread .greatest) sounds (replyOctets + 4))
+      ∙ ap (λ (k : ℕ). sets sounds (replyOctets + k) (t .spread .least ++ t .spread .greatest)) (sym (length-low 4 (t .sounds)))
+      ∙ sym (sets-append (number (t .sounds)) (t .spread .least ++ t .spread .greatest) d replyOctets)
+
+  pub told-length : length (toldOctets t) ≡ 4 + 2 * groupCount
+  told-length =
+      length-append (number (t .sounds)) (t .spread .least ++ t .spread .greatest)
+      ∙ ap₂ (λ (i j : ℕ). i + j) (length-low 4 (t .sounds)) (length-append (t .spread .least) (t .spread .greatest) ∙ ap₂ (λ (i j : ℕ). i + j) least greatest)
 
 -- a key, one number behind the other
 pub key-put : (d : List ℕ) (k : Key)

@@ -6,6 +6,10 @@ use lib.ListN.{length}
 use Rattle.octets.specs.Octets.{splice}
 use Rattle.messages.specs.Reading.{Checked, no, yes}
 use Rattle.ends.specs.Answers.{Summary, indicationNumber}
+use Rattle.ends.specs.Outcomes.{andThen}
+use Rattle.rules.specs.declared.Queried.{Queried}
+use Rattle.rules.specs.Rules.{Told}
+use Rattle.rules.specs.Answers.{heardOf}
 use Rattle.script.specs.declared.events.EventHead.{EventHead}
 use Rattle.script.specs.Events.{mostOctets, kindIn, readingIn, roomIn}
 use Rattle.script.specs.Replies.{replyOctets, longestReply, replyHead}
@@ -48,6 +52,10 @@ pub record Fits (x : Checked Summary) (out : List ℕ) : Type 0 where
 pub record Answered (x : Checked Summary) (entry exit : List ℕ) (n : ℕ) : Type 0 where
   pub octets : n ≡ replyOctets + frameOctets x
   pub output : exit ≡ splice 0 (headOf x) entry
+
+-- what the service query's answer tells
+abbrev pub toldBy : Queried → Checked Told
+toldBy q = andThen (heardOf (q .heard)) (λ (n : ℕ). yes (record { sounds = n; spread = q .spread }))
 
 -- the whole reply ws stands in the output, and takes n octets
 pub record Replied (ws entry exit : List ℕ) (n : ℕ) : Type 0 where

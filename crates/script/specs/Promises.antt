@@ -6,12 +6,12 @@ use mathlib.Core.Option.{Option}
 use Rattle.messages.specs.declared.CarAddress.{CarAddress}
 use Rattle.rules.specs.declared.Station.{Station}
 use Rattle.rules.specs.Calls.{Call}
-use Rattle.rules.specs.Rules.{configured, configuring, step, outcome, soundsHeard}
+use Rattle.rules.specs.Rules.{configured, configuring, step, outcome, query}
 use Rattle.rules.specs.Invariant.{Invariant}
 use Rattle.script.specs.declared.Started.{Started}
 use Rattle.script.specs.declared.Happened.{Happened}
 use Rattle.script.specs.Layout.{addressIn, modemIn, nidIn, nmkIn, exemptIn, isHead, Event}
-use Rattle.script.specs.Replies.{number, callReply, queryReply}
+use Rattle.script.specs.Replies.{callReply, queryReply, toldOctets}
 use Rattle.script.specs.Ends.{StartsAs, after, replyTo, CarriedOut}
 
 -- the whole promise of starting by the head h: the script goes on where the head keeps to the layout
@@ -19,9 +19,9 @@ pub record Starts (h : List ℕ) (r : Started) : Type 0 where
   pub starts : StartsAs Invariant (configured (addressIn h) (modemIn h) (nidIn h) (nmkIn h) (exemptIn h)) (configuring (addressIn h) (modemIn h) (nidIn h)) (r .station) (r .answer)
   pub on : r .on ≡ isHead h
 
--- the reply to an event: a service query's is one number
+-- the reply to an event: a service query's is what the query tells
 abbrev pub reply : Station → Option Event → List ℕ
-reply s x = replyTo (λ (y : Call). callReply (outcome s y)) (λ (c : CarAddress). queryReply number (soundsHeard s c)) x
+reply s x = replyTo (λ (y : Call). callReply (outcome s y)) (λ (c : CarAddress). queryReply toldOctets (query s c)) x
 
 -- the whole promise of an event x: r, and the output from entry to exit
 abbrev pub Happens : Station → Option Event → (entry exit : List ℕ) → Happened → Type 0

@@ -5,6 +5,7 @@ use lib.ListN.{length}
 use Rattle.octets.specs.Octets.{bytes, lowBytes}
 use Rattle.car_rules.specs.declared.Key.{Key}
 use Rattle.messages.specs.Reading.{Checked, no, yes}
+use Rattle.rules.specs.Rules.{Told}
 use Rattle.ends.specs.Outcomes.{Outcome, joined}
 use Rattle.ends.specs.Answers.{indicationNumber}
 use Rattle.script.specs.Events.{mostOctets}
@@ -33,6 +34,10 @@ replyWith refusal indication s = replyHead refusal indication (length s) ++ s
 abbrev pub callReply : Outcome → List ℕ
 callReply (no n) = replyWith n 0 []
 callReply (yes x) = replyWith 0 (indicationNumber (x .indication)) (joined (x .frames))
+
+-- what a service query's reply holds: the sounds heard as a number, the least values, and then the greatest
+abbrev pub toldOctets : Told → List ℕ
+toldOctets t = number (t .sounds) ++ (t .spread .least ++ t .spread .greatest)
 
 -- what a key query's reply holds: the station, its NID, low octet first, and its NMK
 abbrev pub keyOctets : Key → List ℕ

@@ -111,8 +111,8 @@ fn query(station: Station, octets: &[u8], out: &mut [u8]) -> Happened
         return nothing(station);
     }
     let car = CarAddress(octets::number_at(octets, 0, 6));
-    let heard = rules::sounds_heard(station, car);
-    let size = replies::put_heard(out, heard);
+    let queried = rules::query(station, car);
+    let size = replies::put_told(out, queried);
     Happened {
         station: station,
         octets: size,

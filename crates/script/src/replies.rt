@@ -3,22 +3,27 @@ use crate::REPLY_OCTETS;
 use car_rules::Key;
 use car_rules::KeyAnswer;
 use ends::Answer;
+use messages::GROUPS;
 use messages::Refusal;
 use rules::HeardAnswer;
+use rules::Queried;
+use rules::Spread;
 ghost use mathlib.Core.Path.{_≡_};
 ghost use Prim.Native.Nat.{_≤_};
 ghost use lib.ListN.{length};
 ghost use lib.Seq.{sets};
 ghost use Rattle.octets.specs.Octets.{splice};
 ghost use Rattle.ends.specs.Answers.{answerOf};
-ghost use Rattle.rules.specs.Answers.{heardOf};
 ghost use Rattle.car_rules.specs.Answers.{keyOf};
 ghost use Rattle.messages.specs.Answers.{numberOf};
-ghost use Rattle.script.specs.Replies.{number, replyOctets, longestReply, replyHead, keyOctets, queryReply, refusalNumber};
-ghost use Rattle.script.specs.Private.{Fits, Answered, Replied};
+ghost use Rattle.script.specs.Replies.{replyOctets, longestReply, replyHead, toldOctets, keyOctets, queryReply, refusalNumber};
+ghost use Rattle.script.specs.Private.{Fits, Answered, toldBy, Replied};
 
 // How many octets a key takes: the station's address, NID and NMK.
 const KEY_OCTETS: usize = 29;
+
+// How many octets what the service query tells takes: the sounds heard, the least and the greatest values.
+const TOLD_OCTETS: usize = 4 + 2 * GROUPS;
 
 // The number of an answer's refusal, or 0.
 pub(crate) fn refusal_of(answer: Answer) -> u32
@@ -99,17 +104,30 @@ pub(crate) fn put_key(out: &mut [u8], answer: KeyAnswer) -> usize
     }
 }
 
-// Writes the reply to the service query, and gives its length.
-pub(crate) fn put_heard(out: &mut [u8], heard: HeardAnswer) -> usize
-    requires { ⌜ longestReply ≤ length (now out) ⌝ }
-    ensures { λ r. ⌜ Replied (queryReply number (heardOf heard)) (now (out .entry)) (now (out .exit)) r ⌝ }
+// Writes the octets of what the service query tells behind a reply's first ones: the sounds heard, the least and the greatest values.
+fn put_told_octets(out: &mut [u8], sounds: u32, spread: Spread)
+    ensures { λ _. ⌜ now (out .exit) ≡ sets (now (out .entry)) replyOctets (toldOctets (record { sounds = sounds; spread = spread })) ⌝ }
 {
+    let least = spread.least;
+    let greatest = spread.greatest;
+    octets::put_low_number(out, REPLY_OCTETS, 4, sounds as u64);
+    octets::copy(&least, 0, GROUPS, out, REPLY_OCTETS + 4);
+    octets::copy(&greatest, 0, GROUPS, out, REPLY_OCTETS + 4 + GROUPS);
+}
+
+// Writes the reply to the service query, and gives its length.
+pub(crate) fn put_told(out: &mut [u8], queried: Queried) -> usize
+    requires { ⌜ longestReply ≤ length (now out) ⌝ }
+    ensures { λ r. ⌜ Replied (queryReply toldOctets (toldBy queried)) (now (out .entry)) (now (out .exit)) r ⌝ }
+{
+    let heard = queried.heard;
+    let spread = queried.spread;
     match heard {
         HeardAnswer::Refused(refusal) => put_refusal(out, refusal),
-        HeardAnswer::Heard(n) => {
-            put_head(out, 0, 0, 4);
-            octets::put_low_number(out, REPLY_OCTETS, 4, n as u64);
-            REPLY_OCTETS + 4
+        HeardAnswer::Heard(sounds) => {
+            put_head(out, 0, 0, TOLD_OCTETS);
+            put_told_octets(out, sounds, spread);
+            REPLY_OCTETS + TOLD_OCTETS
         }
     }
 }
