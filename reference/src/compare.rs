@@ -1,6 +1,6 @@
 //! Compares two outputs of one script, a station's or a car's.
 
-use crate::messages::{Address, Body, Message, RESULTS};
+use crate::messages::{Address, Body, Groups, Message, RESULTS};
 use crate::refusal;
 use crate::script::{take_number, Answer};
 use std::io::{self, BufReader, Read};
@@ -39,13 +39,25 @@ pub fn refused(number: u32) -> String {
 fn words(answer: &Option<Answer>) -> String {
     let Some(Answer { refusal, indication, octets }) = answer else { return "no answer".into() };
     let given = match octets[..] {
-        [a, b, c, d] => format!("the number {}", u32::from_le_bytes([a, b, c, d])),
+        _ if Message::read_all(octets).0.is_empty() && spread(octets).is_some() => service(octets),
         [a, b, c, d, e, f, ref key @ ..] if octets.len() == KEY => {
             format!("the key of {}: {}", Address([a, b, c, d, e, f]), hex(key))
         }
         _ => format!("{}: {}", frames(octets), hex(octets)),
     };
     format!("{}, {}, {given}", refused(*refusal), indicated(*indication))
+}
+
+/// What a station's service query gives: the sounds heard, the least and the greatest values.
+pub fn spread(octets: &[u8]) -> Option<(u32, &Groups, &Groups)> {
+    let (heard, values) = octets.split_first_chunk()?;
+    let (least, greatest) = values.split_first_chunk()?;
+    Some((u32::from_le_bytes(*heard), least, greatest.try_into().ok()?))
+}
+
+fn service(octets: &[u8]) -> String {
+    let Some((heard, least, greatest)) = spread(octets) else { return hex(octets) };
+    format!("{heard} sounds heard, least {}, greatest {}", hex(least), hex(greatest))
 }
 
 /// An indication in words.

@@ -3,6 +3,7 @@
 use crate::messages::{Body, Kind, Message};
 use crate::refusal::{self, Refusal};
 use crate::script::{Event, Outcome};
+use crate::spread_count::Spreads;
 use crate::station::{Config, Indication, Phase, State, Station};
 use crate::validation_count::{named, Validations};
 use std::cmp::Ordering;
@@ -10,13 +11,18 @@ use std::collections::BTreeMap;
 use std::fmt;
 
 /// Counts by group and row, in the order of the table.
-#[derive(Default)]
+#[derive(Clone, Default)]
 pub struct Table(BTreeMap<(&'static str, String), u64>);
 
 impl Table {
     /// A row of zero, so that what is never reached shows.
     pub fn row(&mut self, group: &'static str, name: &str) {
         self.0.insert((group, name.into()), 0);
+    }
+
+    /// How many rows are reached.
+    pub fn reached(&self) -> usize {
+        self.0.values().filter(|count| **count > 0).count()
     }
 
     /// One more; a row of its own where there is none.
@@ -71,9 +77,11 @@ pub fn end(left: u32, elapsed: u32) -> &'static str {
 }
 
 /// The station's table.
+#[derive(Clone)]
 pub struct Counts {
     table: Table,
     validations: Validations,
+    spreads: Spreads,
 }
 
 impl Counts {
@@ -108,7 +116,13 @@ impl Counts {
             row("7 passage", name);
         }
         let validations = Validations::new(config, &mut table);
-        Counts { table, validations }
+        let spreads = Spreads::new(&mut table);
+        Counts { table, validations, spreads }
+    }
+
+    /// How many rows are reached.
+    pub fn reached(&self) -> usize {
+        self.table.reached()
     }
 
     fn add(&mut self, group: &'static str, name: &str) {
@@ -156,6 +170,7 @@ impl Counts {
         self.states(after);
         self.passages(event, before, after, outcome);
         self.validations.event(&mut self.table, event, before, after, outcome);
+        self.spreads.event(&mut self.table, event, before, after, outcome);
     }
 
     fn states(&mut self, after: &Station) {

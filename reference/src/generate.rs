@@ -1,5 +1,6 @@
 //! Random scripts from a seed, and the demo script.
 
+use crate::count::Counts;
 use crate::messages::{Address, Body, Message, Nid, Nmk, RunId};
 use crate::random::Random;
 use crate::script::{write_head, Event};
@@ -8,6 +9,7 @@ use std::collections::VecDeque;
 use std::io::{self, Write};
 
 /// What an episode from plug-in to plug-in is like.
+#[derive(Clone)]
 struct Mood {
     cars: usize,   // how many of the cars take part
     pace: usize,   // the longest usual tick
@@ -38,6 +40,7 @@ const FIRST: Body = Body::ValidateReq { timer: 0 };
 const TIMERS: [u8; 14] = [0, 0, 0, 1, 1, 2, 3, 4, 5, 9, 10, 99, 254, 255];
 
 /// Makes events, steered by a station of its own.
+#[derive(Clone)]
 struct Generator {
     random: Random,
     config: Config,
@@ -61,7 +64,12 @@ enum Planned {
     /// Any pilot change while a car validates.
     Toggle,
     Terminate,
+    Query(Address),
 }
+
+/// `cover` tries so many ways on, each of so many events at most.
+const TRIES: usize = 16;
+const STRETCH: usize = 24;
 
 /// `generate SEED EVENTS`.
 pub fn generate(seed: u64, events: u32, script: &mut impl Write) -> io::Result<()> {
@@ -77,7 +85,42 @@ pub fn generate(seed: u64, events: u32, script: &mut impl Write) -> io::Result<(
     Ok(())
 }
 
+/// `cover SEED EVENTS`: as `generate` with a good configuration, but of several ways on it takes
+/// the one that reaches most rows of the table.
+pub fn cover(seed: u64, events: u32, script: &mut impl Write) -> io::Result<()> {
+    let mut generator = Generator::new(Random::new(seed));
+    let mut counts = Counts::new(generator.config);
+    write_head(script, &generator.config, events)?;
+    let mut left = usize::try_from(events).map_err(io::Error::other)?;
+    while left > 0 {
+        let length = (1 + generator.random.below(STRETCH)).min(left);
+        let seeds: [u64; TRIES] = std::array::from_fn(|_| generator.random.next());
+        let tries = seeds.into_iter().map(|seed| generator.go_on(seed, length, &counts));
+        let Some(best) = tries.max_by_key(|(_, counts, _)| counts.reached()) else { break };
+        let stretch;
+        (generator, counts, stretch) = best;
+        stretch.iter().try_for_each(|event| event.write(script))?;
+        left -= length;
+    }
+    Ok(())
+}
+
 impl Generator {
+    /// One way on: so many events by another seed.
+    fn go_on(&self, seed: u64, length: usize, counts: &Counts) -> (Generator, Counts, Vec<Event>) {
+        let mut generator = Generator { random: Random::new(seed), ..self.clone() };
+        let mut counts = counts.clone();
+        let stretch = (0..length).map(|_| {
+            let event = generator.event();
+            let before = generator.station.clone();
+            let outcome = event.happen(&mut generator.station);
+            counts.event(&event, &before, &generator.station, &outcome);
+            event
+        });
+        let stretch = stretch.collect();
+        (generator, counts, stretch)
+    }
+
     fn new(mut random: Random) -> Generator {
         let mut nid = random.octets::<7>();
         nid[6] &= 0x3F;
@@ -160,12 +203,21 @@ impl Generator {
                 let reading = self.clock;
                 Event::Pilot { to: self.random.pick(&Pilot::ALL[1..4], Pilot::B), reading }
             }
-            (_, 970..=974) => {
-                let Config { station, modem, .. } = self.config;
-                Event::Query { car: self.random.pick(&[station, modem], Address::BROADCAST) }
-            }
-            _ => Event::Query { car: self.car() },
+            _ => self.query(),
         }
+    }
+
+    /// A service query, mostly of a car that holds a record.
+    fn query(&mut self) -> Event {
+        let Config { station, modem, .. } = self.config;
+        let (any, ours) = (self.car(), self.random.pick(&[station, modem], Address::BROADCAST));
+        let held: Vec<Address> = self.cars_in(|_| true).into_iter().map(|(car, _)| car).collect();
+        let car = match self.random.below(20) {
+            0 => ours,
+            1..=4 => any,
+            _ => self.random.pick(&held, any),
+        };
+        Event::Query { car }
     }
 
     /// A plug-in or a loss, now and then any change.
@@ -218,6 +270,7 @@ impl Generator {
         match self.random.below(100) {
             0..=7 => return None,
             8..=17 => return Some(self.odd_frame()),
+            18..=20 => return Some(self.query()),
             _ => {}
         }
         if self.plan.is_empty() {
@@ -242,31 +295,51 @@ impl Generator {
             Planned::Pilot(to) => Event::Pilot { to, reading: self.clock },
             Planned::Toggle => self.toggle(),
             Planned::Terminate => Event::Terminate,
+            Planned::Query(car) => Event::Query { car },
         })
     }
 
     /// Some cars from their request to the response, mostly with a profile each.
     fn arrivals(&mut self) -> VecDeque<Planned> {
-        let Config { station, modem, .. } = self.config;
+        let Config { station, .. } = self.config;
         let most = self.random.pick(&[1, 2, 3, 3, 5, 5], 1).min(self.mood.cars);
         let responses = self.random.pick(&[100, 70, 40], 90);
-        let (mut first, mut last) = (Vec::new(), Vec::new());
+        let (mut first, mut last) = (VecDeque::new(), Vec::new());
         for car in self.cars.into_iter().take(most) {
-            let (run, random) = (RunId(self.random.octets()), self.random.octets());
-            first.push(Body::ParmReq { run }.broadcast(car));
-            first.push(Body::StartAttenChar { run }.broadcast(car));
-            if self.random.chance(40) {
-                let count = self.random.below(12) as u8;
-                first.push(Body::MnbcSound { run, count, random }.broadcast(car));
+            let mut run = RunId(self.random.octets());
+            first.extend(self.arrival(car, run));
+            if self.random.chance(10) {
+                run = RunId(self.random.octets());
+                let mut again = self.arrival(car, run);
+                let place = self.random.pick(&[0, 1, 2], 1);
+                again.insert(place, Planned::Query(car));
+                first.extend(again);
+                first.push_back(Planned::Query(car));
             }
-            let profiles = if self.random.chance(4) { 10 } else { 1 };
-            first.extend((0..profiles).map(|_| self.profile(car).send(modem, station)));
             if self.random.chance(responses) {
-                last.push(Body::AttenCharRsp { run }.send(car, station));
+                last.push(Planned::Frame(Body::AttenCharRsp { run }.send(car, station)));
             }
         }
-        let first = first.into_iter().map(Planned::Frame);
-        first.chain([Planned::Tick(600)]).chain(last.into_iter().map(Planned::Frame)).collect()
+        first.push_back(Planned::Tick(600));
+        first.extend(last);
+        first
+    }
+
+    /// A car's request, start, sounds and profiles.
+    fn arrival(&mut self, car: Address, run: RunId) -> Vec<Planned> {
+        let Config { station, modem, .. } = self.config;
+        let opening = [Body::ParmReq { run }, Body::StartAttenChar { run }];
+        let mut frames: Vec<Message> = opening.map(|body| body.broadcast(car)).into();
+        let (all, few) = (self.random.chance(3), self.random.pick(&[0, 0, 1], 0));
+        for count in 0..if all { 10 } else { few } {
+            let count = if all { count } else { self.random.below(12) as u8 };
+            let random = self.random.octets();
+            frames.push(Body::MnbcSound { run, count, random }.broadcast(car));
+        }
+        let profiles = if self.random.chance(4) { 10 } else { 1 + self.random.below(8) / 6 };
+        frames.extend((0..profiles).map(|_| self.profile(car).send(modem, station)));
+        let query = (profiles == 10).then_some(Planned::Query(car));
+        frames.into_iter().map(Planned::Frame).chain(query).collect()
     }
 
     /// The cars in a phase, and their runs.

@@ -15,6 +15,7 @@ mod random;
 mod refusal;
 mod script;
 mod show;
+mod spread_count;
 mod station;
 #[cfg(test)]
 mod tests;
@@ -30,7 +31,7 @@ use std::io::{self, BufReader, BufWriter, Read, Write};
 use std::process::ExitCode;
 
 const USAGE: &str = "usage: reference run | show [REPLIES] | count (a script on standard input) \
-                     | generate SEED EVENTS | demo | compare A B \
+                     | generate SEED EVENTS | cover SEED EVENTS | demo | compare A B \
                      | car-run | car-count (a car's script on standard input) \
                      | car-generate SEED EVENTS";
 
@@ -48,6 +49,9 @@ fn main() -> ExitCode {
         (["demo"], _) => generate::demo(&mut out).map(|()| true),
         (["generate", seed, events], _) => numbers(seed, events)
             .and_then(|(seed, events)| generate::generate(seed, events, &mut out))
+            .map(|()| true),
+        (["cover", seed, events], _) => numbers(seed, events)
+            .and_then(|(seed, events)| generate::cover(seed, events, &mut out))
             .map(|()| true),
         (["car-run"], _) => car_run(input, &mut out),
         (["car-count"], _) => car_count(input, &mut out),

@@ -4,6 +4,7 @@ use crate::messages::{Address, Kind, Message};
 use crate::script::MOST;
 
 /// SplitMix64.
+#[derive(Clone)]
 pub struct Random(u64);
 
 impl Random {

@@ -33,13 +33,26 @@ impl Refusal {
 
 /// What each number means, from 1 on.
 const WORDS: [&str; 20] = [
-    "frame too short", "frame head wrong", "unknown message type", "frame too long",
-    "address of the wrong kind", "fixed octet wrong", "not for us",
-    "the state takes no such event", "admission closed", "five records held",
-    "no such record, run or station", "record in another phase",
-    "sound count over 9 or heard already", "tick gap over 60,000", "output too short",
-    "bad configuration", "only a car receives this", "ten stations' reports kept",
-    "only a station receives this", "a report of no sounds",
+    "frame too short",
+    "frame head wrong",
+    "unknown message type",
+    "frame too long",
+    "address of the wrong kind",
+    "fixed octet wrong",
+    "not for us",
+    "the state takes no such event",
+    "admission closed",
+    "five records held",
+    "no such record, run, profile or station",
+    "record in another phase",
+    "sound count over 9 or heard already",
+    "tick gap over 60,000",
+    "output too short",
+    "bad configuration",
+    "only a car receives this",
+    "ten stations' reports kept",
+    "only a station receives this",
+    "a report of no sounds",
 ];
 
 /// The numbers that a station gives, and those that a car gives.

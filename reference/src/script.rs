@@ -3,7 +3,7 @@
 
 use crate::messages::{Address, Nid, Nmk};
 use crate::refusal::Refusal;
-use crate::station::{Config, Indication, Pilot, Station};
+use crate::station::{Config, Indication, Pilot, Service, Station};
 use std::io::{self, BufRead, BufReader, Read, Write};
 
 /// The most octets of an event, and of the output lent to it.
@@ -78,7 +78,8 @@ impl Event {
             Event::Terminate => station.terminate()?,
             Event::LinkUp => station.link_up()?,
             Event::Query { car } => {
-                return Ok((None, station.sounds_heard(*car)?.to_le_bytes().to_vec()));
+                let Service { heard, least, greatest } = station.service(*car)?;
+                return Ok((None, [&heard.to_le_bytes()[..], &least, &greatest].concat()));
             }
         };
         output.truncate(accepted.written);

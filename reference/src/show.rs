@@ -12,7 +12,7 @@ state afterwards                          reply; indication";
 pub fn line(event: &Event, station: &Station, answer: &Answer) -> String {
     let (name, car) = describe(event);
     let reply = match (answer.refusal, event, answer.octets.first()) {
-        (0, Event::Query { .. }, heard) => format!("{} sounds heard", heard.copied().unwrap_or(0)),
+        (0, Event::Query { .. }, _) => service(&answer.octets),
         (0, _, None) => "-".into(),
         (0, _, Some(_)) => compare::frames(&answer.octets),
         (refusal, ..) => compare::refused(refusal),
@@ -24,6 +24,18 @@ pub fn line(event: &Event, station: &Station, answer: &Answer) -> String {
     let car_text = car.map_or("-".into(), |car| car.to_string());
     let state = state(station, car);
     format!("{:>10}  {name:<31}  {car_text:<17}  {state:<40}  {reply}{indication}", station.reading)
+}
+
+/// A query's answer in words: the sounds heard, and the values over all groups.
+fn service(octets: &[u8]) -> String {
+    let Some((heard, least, greatest)) = compare::spread(octets) else {
+        return compare::frames(octets);
+    };
+    let (lowest, highest) = (least.iter().min(), greatest.iter().max());
+    let (lowest, highest) = (lowest.copied().unwrap_or(0), highest.copied().unwrap_or(0));
+    let widest = least.iter().zip(greatest).map(|(least, most)| most.saturating_sub(*least)).max();
+    let widest = widest.unwrap_or(0);
+    format!("{heard} sounds heard, values {lowest} to {highest}, widest spread {widest}")
 }
 
 /// The event in words, and the car it names.
@@ -48,7 +60,7 @@ fn describe(event: &Event) -> (String, Option<Address>) {
         Event::Pilot { to, .. } => (format!("pilot {to:?}"), None),
         Event::Terminate => ("terminate".into(), None),
         Event::LinkUp => ("link up".into(), None),
-        Event::Query { car } => ("query: sounds heard?".into(), Some(*car)),
+        Event::Query { car } => ("service query".into(), Some(*car)),
     }
 }
 

@@ -89,6 +89,9 @@ pub struct Record {
     pub heard: u16,
     pub profiles: u16,
     pub sums: [u16; 58],
+    /// The least and the greatest value of each group; 255 and 0 before the first profile.
+    pub least: Groups,
+    pub greatest: Groups,
     pub phase: Phase,
     /// The phase's remaining time.
     pub left: u32,
@@ -111,6 +114,15 @@ impl From<Indication> for u32 {
 pub struct Accepted {
     pub written: usize,
     pub indication: Option<Indication>,
+}
+
+/// What the service query gives: how many sounds of the car's run were heard, and the spread of
+/// the values in each group.
+#[derive(Clone, Copy, Debug, PartialEq, Eq)]
+pub struct Service {
+    pub heard: u32,
+    pub least: Groups,
+    pub greatest: Groups,
 }
 
 pub type Answer = Result<Accepted, Refusal>;
@@ -186,11 +198,13 @@ impl Station {
         Ok(Accepted { written: 0, indication: Some(Indication::LinkEstablished) })
     }
 
-    /// The service query: how many sounds of the car's run were heard.
-    pub fn sounds_heard(&self, car: Address) -> Result<u32, Refusal> {
+    /// The service query: "16, then 11 where the car holds no record or its record counts no
+    /// profile".
+    pub fn service(&self, car: Address) -> Result<Service, Refusal> {
         self.config()?;
-        let record = self.record(car).ok_or(Refusal::NoRecord)?;
-        Ok(record.heard.count_ones())
+        let counted = self.record(car).filter(|record| record.profiles > 0);
+        let Record { heard, least, greatest, .. } = counted.ok_or(Refusal::NoRecord)?;
+        Ok(Service { heard: heard.count_ones(), least: *least, greatest: *greatest })
     }
 
     /// A received frame: "16, 15, reading, 17, 7, 8, then 9 and 10, or 11, 12, 13".
@@ -398,8 +412,17 @@ impl Config {
 
 impl Record {
     fn asked(car: Address, run: RunId) -> Record {
-        let (phase, left) = (Phase::Asked, ASKED);
-        Record { car, run, heard: 0, profiles: 0, sums: [0; 58], phase, left }
+        Record {
+            car,
+            run,
+            heard: 0,
+            profiles: 0,
+            sums: [0; 58],
+            least: [255; 58],
+            greatest: [0; 58],
+            phase: Phase::Asked,
+            left: ASKED,
+        }
     }
 
     fn enter(&mut self, phase: Phase, left: u32) {
@@ -435,10 +458,13 @@ impl Record {
         *begun = (from, to) == (Pilot::B, Pilot::C);
     }
 
-    /// "Values added, one more counted."
+    /// "Values added, one more counted"; each value lowers the least and raises the greatest of
+    /// its group where it is lower or higher.
     fn add(&mut self, groups: &Groups) {
-        for (sum, value) in self.sums.iter_mut().zip(groups) {
-            *sum += u16::from(*value);
+        for (group, value) in groups.iter().enumerate() {
+            self.sums[group] += u16::from(*value);
+            self.least[group] = self.least[group].min(*value);
+            self.greatest[group] = self.greatest[group].max(*value);
         }
         self.profiles += 1;
     }

@@ -3,7 +3,7 @@
 use crate::messages::{Address, Body, Destination, Kind, Message, Nid, Nmk, RunId};
 use crate::refusal::Refusal;
 use crate::script::{write_head, Event};
-use crate::station::{Answer, Config, Indication, Phase, Pilot, State, Station, Step};
+use crate::station::{Answer, Config, Indication, Phase, Pilot, Service, State, Station, Step};
 use crate::{compare, count, generate, show, validation_count};
 
 const fn address(last: u8) -> Address {
@@ -156,6 +156,10 @@ impl Bench {
         self.call(645, |station, output| station.tick(reading, output))
     }
 
+    fn service(&self, car: Address) -> Result<Service, u32> {
+        self.0.service(car).map_err(Refusal::number)
+    }
+
     fn phase(&self, car: Address) -> Option<(Phase, u32)> {
         self.0.record(car).map(|record| (record.phase, record.left))
     }
@@ -240,6 +244,11 @@ impl Bench {
     }
 }
 
+/// A query's answer with the same values in every group.
+fn service(heard: u32, least: u8, greatest: u8) -> Result<Service, u32> {
+    Ok(Service { heard, least: [least; 58], greatest: [greatest; 58] })
+}
+
 fn report(car: Address, sounds: u8, value: u8) -> Message {
     Body::AttenChar { run: RUN, sounds, groups: [value; 58] }.send(US, car)
 }
@@ -301,6 +310,7 @@ fn p10_a_full_house() {
     assert!(bench.car(Body::ParmReq { run }).is_ok());
     let record = bench.0.record(CAR).unwrap();
     assert_eq!((record.run, record.heard, record.profiles, record.sums), (run, 0, 0, [0; 58]));
+    assert_eq!((record.least, record.greatest), ([255; 58], [0; 58]));
     assert_eq!(bench.phase(CAR), Some((Phase::Asked, 400)));
     assert_eq!(bench.0.records().map(|r| r.car.0[5]).collect::<Vec<_>>(), [1, 2, 3, 4, 5]);
     assert_eq!(bench.car(START), Err(11));
@@ -502,9 +512,9 @@ fn sounding() {
     assert_eq!(bench.phase(CAR), Some((Phase::Sounding, 500)));
     assert_eq!(bench.profile(address(2), 50), Err(11));
     assert_eq!((bench.car(sound(0)), bench.car(sound(7))), (NOTHING, NOTHING));
-    assert_eq!(bench.0.sounds_heard(CAR), Ok(2));
     for _ in 0..9 {
         assert_eq!(bench.profile(CAR, 255), NOTHING);
+        assert_eq!(bench.service(CAR), service(2, 255, 255));
     }
     assert_eq!(bench.profile(CAR, 250), replies(&[report(CAR, 10, 254)]));
     assert_eq!(bench.phase(CAR), Some((Phase::Reported { retries: 2 }, 200)));
@@ -559,7 +569,7 @@ fn the_end_of_admission() {
 #[test]
 fn joining_and_link_up() {
     let mut bench = Bench::joining();
-    assert_eq!((bench.0.records().count(), bench.0.sounds_heard(CAR)), (0, Err(Refusal::NoRecord)));
+    assert_eq!((bench.0.records().count(), bench.service(CAR)), (0, Err(11)));
     assert_eq!(bench.tick(11_999), NOTHING);
     assert_eq!(bench.car(MATCH), replies(&[match_cnf()]));
     assert_eq!(bench.0.state, State::Joining { left: 1, car: CAR, run: RUN });
@@ -635,8 +645,99 @@ fn a_bad_configuration_answers_16_to_everything() {
         assert_eq!((bench.terminate(), bench.link_up()), (Err(16), Err(16)));
         assert_eq!(bench.pilot(Pilot::B, 1), Err(16));
         assert_eq!(bench.call(0, |station, output| station.tick(0, output)), Err(16));
-        assert_eq!(bench.0.sounds_heard(CAR), Err(Refusal::Configuration));
+        assert_eq!((bench.service(CAR), bench.service(US)), (Err(16), Err(16)));
     }
+}
+
+#[test]
+fn the_spread_of_each_group() {
+    let mut bench = Bench::plugged();
+    assert_eq!(bench.service(CAR), Err(11));
+    for car in [CAR, OTHER] {
+        assert!(bench.hear(REQUEST.broadcast(car)).is_ok());
+        assert_eq!(bench.hear(START.broadcast(car)), NOTHING);
+    }
+    // Sounds alone count no profile.
+    assert_eq!((bench.car(sound(3)), bench.service(CAR)), (NOTHING, Err(11)));
+    let (mut least, mut greatest) = ([255; 58], [0; 58]);
+    for round in 0..10_u8 {
+        let values = std::array::from_fn(|group| match group {
+            0 => round,
+            1 => 9 - round,
+            2 => [0, 255][usize::from(round % 2)],
+            3 => 255,
+            4 => 0,
+            5 => {
+                if round == 9 {
+                    200
+                } else {
+                    100
+                }
+            }
+            6 => {
+                if round == 9 {
+                    0
+                } else {
+                    100
+                }
+            }
+            _ => round.wrapping_mul(37).wrapping_add(group as u8),
+        });
+        let profile = Body::AttenProfile { car: CAR, groups: values };
+        assert!(bench.hear(profile.send(MODEM, US)).is_ok());
+        for group in 0..58 {
+            least[group] = least[group].min(values[group]);
+            greatest[group] = greatest[group].max(values[group]);
+        }
+        assert_eq!(bench.service(CAR), Ok(Service { heard: 1, least, greatest }));
+        assert_eq!(bench.service(OTHER), Err(11));
+    }
+    // The tenth counts too, and the values stay while the record is held.
+    let ends: Vec<(u8, u8)> = least.into_iter().zip(greatest).take(7).collect();
+    assert_eq!(ends, [(0, 9), (0, 9), (0, 255), (255, 255), (0, 0), (100, 200), (0, 100)]);
+    assert_eq!((bench.profile(CAR, 0), bench.profile(OTHER, 8)), (Err(12), NOTHING));
+    assert_eq!((bench.car(RESPONSE), bench.tick(500)), (NOTHING, NOTHING));
+    assert_eq!(bench.service(CAR), Ok(Service { heard: 1, least, greatest }));
+    assert_eq!(bench.service(OTHER), service(0, 8, 8));
+    // A restart clears them, and so does a record that is taken anew.
+    assert!(bench.car(REQUEST).is_ok());
+    assert_eq!((bench.service(CAR), bench.service(OTHER)), (Err(11), service(0, 8, 8)));
+    assert_eq!((bench.car(START), bench.service(CAR)), (NOTHING, Err(11)));
+    assert_eq!((bench.profile(CAR, 77), bench.service(CAR)), (NOTHING, service(0, 77, 77)));
+    assert_eq!((bench.pilot(Pilot::A, 0), bench.pilot(Pilot::B, 0)), (NO_LINK, NOTHING));
+    assert_eq!((bench.car(REQUEST).is_ok(), bench.car(START)), (true, NOTHING));
+    assert_eq!((bench.profile(CAR, 5), bench.profile(CAR, 6)), (NOTHING, NOTHING));
+    assert_eq!(bench.service(CAR), service(0, 5, 6));
+    // A refused frame changes nothing, nor does the query.
+    assert_eq!(bench.profile(address(9), 200), Err(11));
+    assert_eq!((bench.service(CAR), bench.service(address(9))), (service(0, 5, 6), Err(11)));
+}
+
+#[test]
+fn a_query_in_words() {
+    let mut bench = Bench::sounding();
+    assert_eq!((bench.profile(CAR, 12), bench.profile(CAR, 15)), (NOTHING, NOTHING));
+    let event = Event::Query { car: CAR };
+    let answer = crate::script::Answer::from(event.happen(&mut bench.0));
+    assert_eq!(answer.octets.len(), 120);
+    let line = show::line(&event, &bench.0, &answer);
+    assert!(line.contains("0 sounds heard, values 12 to 15, widest spread 3"), "{line}");
+    let output = |octets: &[u8]| {
+        let length = (octets.len() as u32).to_le_bytes();
+        [&[0; 12][..], &length, octets].concat()
+    };
+    let other = vec![9; 120];
+    let words = compare::compare(&output(&answer.octets)[..], &output(&other)[..]).unwrap();
+    let words = words.unwrap_err();
+    assert!(words.contains("0 sounds heard, least 0C 0C"), "{words}");
+    assert!(
+        words.contains("| accepted, no indication, 151587081 sounds heard, least 09"),
+        "{words}"
+    );
+    // Two frames of 60 octets are no query's answer.
+    let frames = [validated(CAR, 1, 0), validated(OTHER, 2, 0)].map(|cnf| cnf.to_frame().unwrap());
+    let words = compare::compare(&output(&frames.concat())[..], &output(&other)[..]).unwrap();
+    assert!(words.unwrap_err().contains("CM_VALIDATE.CNF (ready) to 02:00:00:00:00:01, CM_"));
 }
 
 fn script(events: &[Event]) -> Vec<u8> {
@@ -649,9 +750,24 @@ fn script(events: &[Event]) -> Vec<u8> {
 #[test]
 fn a_script_is_answered_event_by_event() {
     let frame = |room| Event::Frame { octets: p1(), room };
+    let hear = |message: Message| Event::Frame { octets: message.to_frame().unwrap(), room: 645 };
+    let profile = |value| Body::AttenProfile { car: CAR, groups: [value; 58] }.send(MODEM, US);
     let plug = Event::Pilot { to: Pilot::B, reading: 1 };
     let query = Event::Query { car: CAR };
-    let whole = script(&[plug, frame(645), frame(644), query, Event::Terminate, Event::LinkUp]);
+    let start = hear(START.broadcast(CAR));
+    let whole = script(&[
+        plug,
+        frame(645),
+        frame(644),
+        query.clone(),
+        start,
+        hear(sound(1).broadcast(CAR)),
+        hear(profile(7)),
+        hear(profile(3)),
+        query,
+        Event::Terminate,
+        Event::LinkUp,
+    ]);
     let mut output = Vec::new();
     assert!(crate::run(&whole[..], &mut output).unwrap());
     let reply = Body::ParmCnf { run: RUN }.send(US, CAR).to_frame().unwrap();
@@ -663,8 +779,12 @@ fn a_script_is_answered_event_by_event() {
         head([0, 0, 60]),
         reply,
         head([15, 0, 0]),
-        head([0, 0, 4]),
-        number(0),
+        head([11, 0, 0]),
+        head([0, 0, 0]).repeat(4),
+        head([0, 0, 120]),
+        number(1),
+        vec![3; 58],
+        vec![7; 58],
         head([0, 1, 0]),
         head([8, 0, 0]),
     ];
@@ -705,10 +825,11 @@ fn random_scripts_come_from_their_seed_and_compare_equal() {
     assert!(compare(0, 2).is_err_and(|words| words.starts_with("event ")));
 }
 
-/// Seeds and how many events of them: one reaches every row but 16 and those of a station that
-/// doesn't require validation, one these, and one has a bad configuration.
-const FULL: (u64, u32) = (34_035, 2_800);
-const EXEMPT: (u64, u32) = (234, 700);
+/// Seeds and how many events of them. The first is covered, and reaches every row but 16 and those
+/// of a station that doesn't require validation; the second is covered and reaches these; the
+/// third has a bad configuration.
+const FULL: (u64, u32) = (22, 2_600);
+const EXEMPT: (u64, u32) = (14, 700);
 const BAD: (u64, u32) = (22, 250);
 
 fn random_script(seed: u64, events: u32) -> Vec<u8> {
@@ -717,16 +838,22 @@ fn random_script(seed: u64, events: u32) -> Vec<u8> {
     script
 }
 
-/// The rows of the table of a random script.
-fn counted(seed: u64, events: u32) -> Vec<String> {
+fn covered_script((seed, events): (u64, u32)) -> Vec<u8> {
+    let mut script = Vec::new();
+    generate::cover(seed, events, &mut script).unwrap();
+    script
+}
+
+/// The rows of the table of a script.
+fn counted(script: &[u8]) -> Vec<String> {
     let mut counted = Vec::new();
-    assert!(crate::count(&random_script(seed, events)[..], &mut counted).unwrap());
+    assert!(crate::count(script, &mut counted).unwrap());
     String::from_utf8(counted).unwrap().lines().map(String::from).collect()
 }
 
 #[test]
 fn a_random_script_reaches_every_row() {
-    let full = counted(FULL.0, FULL.1);
+    let full = counted(&covered_script(FULL));
     let is_exempt = |row: &String| {
         validation_count::EXEMPT.iter().any(|name| row.contains(&format!(" {name}  ")))
     };
@@ -735,14 +862,28 @@ fn a_random_script_reaches_every_row() {
         zeros.into_iter().partition(|row| is_exempt(row));
     assert_eq!(exempt.len(), validation_count::EXEMPT.len());
     assert!(matches!(others[..], [row] if row.contains("16 bad configuration")), "{others:?}");
-    let reached = counted(EXEMPT.0, EXEMPT.1);
+    let reached = counted(&covered_script(EXEMPT));
     assert!(reached.iter().filter(|row| is_exempt(row)).all(|row| !row.ends_with(" 0")));
     // A row that the table did not foresee would be one more.
     let rows = count::Counts::new(CONFIG).to_string().lines().count();
     assert_eq!((full.len(), reached.len()), (rows, rows));
-    let bad = counted(BAD.0, BAD.1);
+    let bad = counted(&random_script(BAD.0, BAD.1));
     let row = bad.iter().find(|row| row.contains("16 bad configuration")).unwrap();
     assert!(row.ends_with(" 251") && bad.len() == rows);
+}
+
+/// What one random script may miss, many reach.
+#[test]
+fn random_scripts_together_reach_every_row() {
+    let mut reached: Vec<bool> = Vec::new();
+    let mut rows = Vec::new();
+    for seed in 1..=60 {
+        rows = counted(&random_script(seed, 5_000));
+        reached.resize(rows.len(), false);
+        rows.iter().zip(&mut reached).for_each(|(row, reached)| *reached |= !row.ends_with(" 0"));
+    }
+    let zeros: Vec<_> = rows.iter().zip(&reached).filter(|(_, reached)| !**reached).collect();
+    assert!(zeros.is_empty(), "{zeros:?}");
 }
 
 #[test]
@@ -973,7 +1114,7 @@ fn other_messages_while_a_car_validates() {
         bench.refuses(12, &[START, RESPONSE, sound(0), sound(10)]);
         assert_eq!(bench.profile(CAR, 1), Err(12));
         bench.refuses(11, &[OTHER_RUN]);
-        assert_eq!(bench.0.sounds_heard(CAR), Ok(0));
+        assert_eq!(bench.service(CAR), service(0, 40, 40));
         match is_success {
             true => assert_eq!(bench.clone().car(MATCH), replies(&[match_cnf()])),
             false => bench.refuses(12, &[MATCH]),

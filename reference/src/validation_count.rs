@@ -49,6 +49,7 @@ const ANSWERS: [&str; 17] = [
 ];
 
 /// A table's rows on validation.
+#[derive(Clone)]
 pub struct Validations {
     config: Config,
     /// What cars in Awaiting were last answered to a first request.

@@ -1,0 +1,173 @@
+//! What a script reaches of the rules on the spread: values that change it, and service queries.
+
+use crate::count::Table;
+use crate::messages::{Address, Body, Groups, Message};
+use crate::refusal::Refusal;
+use crate::script::{Event, Outcome};
+use crate::station::{Phase, Record, State, Station};
+use crate::validation_count::named;
+
+const SPREAD: &str = "91 spread";
+
+const ROWS: [&str; 33] = [
+    "query: 11 in Unmatched",
+    "query: 11 in Joining",
+    "query: 11 in Matched",
+    "query: 11, no record",
+    "query: 11 in Asked",
+    "query: 11 in Sounding",
+    "query: 11, profiles before a restart",
+    "query in Sounding",
+    "query in Reported",
+    "query in Awaiting",
+    "query in ready",
+    "query in counting",
+    "query in success",
+    "query: 0 heard",
+    "query: 1 to 9 heard",
+    "query: 10 heard",
+    "query: one profile",
+    "query: 2 to 9 profiles",
+    "query: ten profiles",
+    "query: least 0",
+    "query: least 255",
+    "query: greatest 0",
+    "query: greatest 255",
+    "query: 0 and 255 in one group",
+    "query after a restart, wider before",
+    "query after the tenth lowered the least",
+    "query after the tenth raised the greatest",
+    "first profile",
+    "later profile: least lowered",
+    "later profile: greatest raised",
+    "later profile: neither",
+    "tenth profile: least lowered",
+    "tenth profile: greatest raised",
+];
+
+/// A table's rows on the spread.
+#[derive(Clone)]
+pub struct Spreads {
+    /// What a car's record had when it was restarted, where it counted a profile.
+    before: Vec<(Address, Groups, Groups)>,
+    /// Cars whose tenth profile lowered the least, or raised the greatest value of a group.
+    tenth: Vec<(Address, bool, bool)>,
+}
+
+impl Spreads {
+    /// Rows of zero.
+    pub fn new(table: &mut Table) -> Spreads {
+        ROWS.iter().for_each(|name| table.row(SPREAD, name));
+        Spreads { before: Vec::new(), tenth: Vec::new() }
+    }
+
+    /// Counts one event by the station before and after it.
+    pub fn event(
+        &mut self,
+        table: &mut Table,
+        event: &Event,
+        before: &Station,
+        after: &Station,
+        outcome: &Outcome,
+    ) {
+        let rows = match (event, outcome) {
+            (Event::Query { car }, Ok(_)) => {
+                after.record(*car).map_or(Vec::new(), |record| self.answered(record))
+            }
+            (Event::Query { car }, Err(Refusal::NoRecord)) => self.refused(*car, before),
+            (Event::Frame { octets, .. }, Ok(_)) => self.frame(octets, before, after),
+            _ => Vec::new(),
+        };
+        rows.iter().for_each(|name| table.add(SPREAD, name));
+        self.before.retain(|(car, ..)| after.record(*car).is_some());
+        self.tenth.retain(|(car, ..)| after.record(*car).is_some_and(|own| own.profiles > 0));
+    }
+
+    /// The rows of a query that was answered.
+    fn answered(&self, record: &Record) -> Vec<String> {
+        let mut rows = vec![match record.phase {
+            Phase::Reported { .. } => "query in Reported".into(),
+            Phase::Validating(step) => format!("query in {}", named(step)),
+            phase => format!("query in {phase:?}"),
+        }];
+        let mut add = |applies: bool, name: &str| rows.extend(applies.then(|| name.to_string()));
+        add(
+            true,
+            match record.heard.count_ones() {
+                0 => "query: 0 heard",
+                10 => "query: 10 heard",
+                _ => "query: 1 to 9 heard",
+            },
+        );
+        add(
+            true,
+            match record.profiles {
+                1 => "query: one profile",
+                10 => "query: ten profiles",
+                _ => "query: 2 to 9 profiles",
+            },
+        );
+        let groups: Vec<(u8, u8)> = record.least.into_iter().zip(record.greatest).collect();
+        add(groups.iter().any(|(least, _)| *least == 0), "query: least 0");
+        add(groups.iter().any(|(least, _)| *least == 255), "query: least 255");
+        add(groups.iter().any(|(_, greatest)| *greatest == 0), "query: greatest 0");
+        add(groups.iter().any(|(_, greatest)| *greatest == 255), "query: greatest 255");
+        add(groups.contains(&(0, 255)), "query: 0 and 255 in one group");
+        let own = |car: &Address| *car == record.car;
+        if let Some((_, least, greatest)) = self.before.iter().find(|(car, ..)| own(car)) {
+            let old = least.iter().zip(greatest);
+            let is_wider =
+                groups.iter().zip(old).any(|(now, old)| *old.0 < now.0 || *old.1 > now.1);
+            add(is_wider, "query after a restart, wider before");
+        }
+        if let Some((_, lowered, raised)) = self.tenth.iter().find(|(car, ..)| own(car)) {
+            add(*lowered, "query after the tenth lowered the least");
+            add(*raised, "query after the tenth raised the greatest");
+        }
+        rows
+    }
+
+    /// The rows of a query refused with 11.
+    fn refused(&self, car: Address, before: &Station) -> Vec<String> {
+        let why = match (before.state, before.record(car)) {
+            (State::Unmatched, _) => " in Unmatched".into(),
+            (State::Joining { .. }, _) => " in Joining".into(),
+            (State::Matched, _) => " in Matched".into(),
+            (State::Matching { .. }, Some(record)) => format!(" in {:?}", record.phase),
+            (State::Matching { .. }, None) => ", no record".into(),
+        };
+        let restarted = self.before.iter().any(|(restarted, ..)| *restarted == car);
+        let restarted = restarted.then(|| "query: 11, profiles before a restart".to_string());
+        [format!("query: 11{why}")].into_iter().chain(restarted).collect()
+    }
+
+    /// The rows of an accepted frame.
+    fn frame(&mut self, octets: &[u8], before: &Station, after: &Station) -> Vec<String> {
+        let Ok(message) = Message::read(octets) else { return Vec::new() };
+        let car = message.car();
+        let record = |station: &Station| car.and_then(|car| station.record(car).cloned());
+        let (Some(old), Some(new)) = (record(before), record(after)) else { return Vec::new() };
+        match message.body {
+            Body::ParmReq { .. } if old.profiles > 0 => {
+                self.before.retain(|(car, ..)| *car != old.car);
+                self.before.push((old.car, old.least, old.greatest));
+                Vec::new()
+            }
+            Body::AttenProfile { .. } if old.profiles == 0 => vec!["first profile".into()],
+            Body::AttenProfile { .. } => {
+                let lowered = old.least != new.least;
+                let raised = old.greatest != new.greatest;
+                let which = if new.profiles == 10 { "tenth" } else { "later" };
+                if new.profiles == 10 {
+                    self.tenth.push((old.car, lowered, raised));
+                }
+                let mut rows = Vec::new();
+                rows.extend(lowered.then(|| format!("{which} profile: least lowered")));
+                rows.extend(raised.then(|| format!("{which} profile: greatest raised")));
+                rows.extend((!lowered && !raised).then(|| "later profile: neither".into()));
+                rows
+            }
+            _ => Vec::new(),
+        }
+    }
+}
