@@ -10,7 +10,8 @@
  * - The station or car was configured before its first other call, and nothing but these calls writes it.
  * - One call at a time for a station or car: an interrupt must not call while another call is under way.
  * - Frame and output are memory of the caller, of at least the lengths given, and overlap neither each other nor the
- *   station or car. A driver that receives and sends in one buffer lends two parts of it.
+ *   station or car. A driver that receives and sends in one buffer lends two parts of it. The same holds of the two arrays
+ *   that the service query fills.
  *
  * Every call comes back, for any octets, any length and any number; NULL stands for no octets, and for a station or car that
  * was never configured. A refused call changes neither station, car nor output. No call allocates, blocks, or keeps a
@@ -31,7 +32,7 @@ extern "C" {
 
 /* The version of this header. */
 #define LAHZAVAR_MAJOR 0
-#define LAHZAVAR_MINOR 4
+#define LAHZAVAR_MINOR 5
 #define LAHZAVAR_PATCH 0
 /* The same as one number, which lahzavar_version() gives of the library. */
 #define LAHZAVAR_VERSION (65536u * LAHZAVAR_MAJOR + 256u * LAHZAVAR_MINOR + LAHZAVAR_PATCH)
@@ -46,9 +47,10 @@ extern "C" {
 #define LAHZAVAR_CONFIRMATION_OCTETS 60
 /* The least room that the frame and tick calls ask for: a report to every car. */
 #define LAHZAVAR_LEAST_OUTPUT (LAHZAVAR_REPORT_OCTETS * LAHZAVAR_RECORDS)
-/* The sizes of a station's two arrays. */
+/* The sizes of a station's three arrays. */
 #define LAHZAVAR_WORDS (13 + 8 * LAHZAVAR_RECORDS)
 #define LAHZAVAR_SUMS (LAHZAVAR_GROUPS * LAHZAVAR_RECORDS)
+#define LAHZAVAR_SPREAD (2 * LAHZAVAR_GROUPS * LAHZAVAR_RECORDS)
 
 /* The most stations whose reports a car keeps. */
 #define LAHZAVAR_STATIONS 10
@@ -70,7 +72,8 @@ enum lahzavar_refusal {
     LAHZAVAR_WRONG_STATE = 8,        /* the state takes no such event; a pilot that is none */
     LAHZAVAR_ADMISSION_CLOSED = 9,   /* a new car after the end of admission */
     LAHZAVAR_RECORDS_FULL = 10,      /* a new car while every record is held */
-    LAHZAVAR_NO_RECORD = 11,         /* this car holds no record, or another run; at a car: another run or station */
+    LAHZAVAR_NO_RECORD = 11,         /* this car holds no record, or another run; at a car: another run or station; to the
+                                        query: no record, or one that counts no profile */
     LAHZAVAR_WRONG_PHASE = 12,       /* the car's record is in another phase */
     LAHZAVAR_BAD_SOUND_COUNT = 13,   /* a sound count over 9, or heard already */
     LAHZAVAR_TICK_GAP = 14,          /* more than 60,000 ms since the last reading */
@@ -111,7 +114,7 @@ static inline const char *lahzavar_refusal_text(uint32_t refusal)
     case LAHZAVAR_RECORDS_FULL:
         return "a new car asks while other cars hold every record";
     case LAHZAVAR_NO_RECORD:
-        return "there is no such record, run or chosen station";
+        return "there is no such record, run or chosen station, or no profile is counted yet";
     case LAHZAVAR_WRONG_PHASE:
         return "the car's record is in another phase";
     case LAHZAVAR_BAD_SOUND_COUNT:
@@ -180,6 +183,7 @@ enum lahzavar_pilot_state {
 struct lahzavar_station {
     uint64_t private_words[LAHZAVAR_WORDS];
     uint16_t private_sums[LAHZAVAR_SUMS];
+    uint8_t private_spread[LAHZAVAR_SPREAD];
 };
 
 /* A car, kept by the caller; its fields are the library's own, and hold the NMK once a station has given it. */
@@ -195,7 +199,7 @@ struct lahzavar_answer {
     uint32_t octets;     /* what they take together */
 };
 
-/* The answer to the service query: a refusal, or the number of sounds heard. */
+/* The answer to the service query: a refusal, or the number of sounds heard; the arrays that were lent have the rest. */
 struct lahzavar_heard {
     uint32_t refusal;
     uint32_t sounds;
@@ -233,8 +237,10 @@ LAHZAVAR_CHECK(sizeof(struct lahzavar_key_numbers) == 40, "a key is five numbers
 LAHZAVAR_CHECK(sizeof(struct lahzavar_car) == 8 * LAHZAVAR_CAR_WORDS, "a car's words stand back to back")
 LAHZAVAR_CHECK(LAHZAVAR_ALIGNMENT(struct lahzavar_car) >= LAHZAVAR_ALIGNMENT(uint64_t), "a car is aligned as its words")
 LAHZAVAR_CHECK(offsetof(struct lahzavar_station, private_sums) == 8 * LAHZAVAR_WORDS, "a station's words stand back to back")
-LAHZAVAR_CHECK(sizeof(struct lahzavar_station) >= 8 * LAHZAVAR_WORDS + 2 * LAHZAVAR_SUMS,
-               "a station holds its words and sums")
+LAHZAVAR_CHECK(offsetof(struct lahzavar_station, private_spread) == 8 * LAHZAVAR_WORDS + 2 * LAHZAVAR_SUMS,
+               "a station's sums stand back to back")
+LAHZAVAR_CHECK(sizeof(struct lahzavar_station) >= 8 * LAHZAVAR_WORDS + 2 * LAHZAVAR_SUMS + LAHZAVAR_SPREAD,
+               "a station holds its words, sums and spread")
 LAHZAVAR_CHECK(LAHZAVAR_ALIGNMENT(struct lahzavar_station) >= LAHZAVAR_ALIGNMENT(uint64_t),
                "a station is aligned as its words")
 #undef LAHZAVAR_CHECK
@@ -246,21 +252,24 @@ LAHZAVAR_CHECK(LAHZAVAR_ALIGNMENT(struct lahzavar_station) >= LAHZAVAR_ALIGNMENT
  * NULL for no octets; a pointer passed here is never NULL. `exempt` is 0 where validation is required, and any other number
  * where it is not.
  */
-struct lahzavar_answer lahzavar_configure(uint64_t *words, uint16_t *sums, uint64_t address, uint64_t modem, uint64_t nid,
-                                          uint64_t nmk_first, uint64_t nmk_last, uint32_t exempt);
-struct lahzavar_answer lahzavar_frame(uint64_t *words, uint16_t *sums, const uint8_t *octets, size_t length, uint8_t *out,
-                                      size_t room);
-struct lahzavar_answer lahzavar_tick(uint64_t *words, uint16_t *sums, uint32_t reading, uint8_t *out, size_t room);
-struct lahzavar_answer lahzavar_pilot(uint64_t *words, uint16_t *sums, uint32_t pilot, uint32_t reading);
-struct lahzavar_answer lahzavar_terminate(uint64_t *words, uint16_t *sums);
-struct lahzavar_answer lahzavar_link_up(uint64_t *words, uint16_t *sums);
-void lahzavar_wipe(uint64_t *words, uint16_t *sums);
-struct lahzavar_heard lahzavar_sounds_heard(const uint64_t *words, const uint16_t *sums, uint64_t car);
+struct lahzavar_answer lahzavar_configure(uint64_t *words, uint16_t *sums, uint8_t *spread, uint64_t address, uint64_t modem,
+                                          uint64_t nid, uint64_t nmk_first, uint64_t nmk_last, uint32_t exempt);
+struct lahzavar_answer lahzavar_frame(uint64_t *words, uint16_t *sums, uint8_t *spread, const uint8_t *octets, size_t length,
+                                      uint8_t *out, size_t room);
+struct lahzavar_answer lahzavar_tick(uint64_t *words, uint16_t *sums, uint8_t *spread, uint32_t reading, uint8_t *out,
+                                     size_t room);
+struct lahzavar_answer lahzavar_pilot(uint64_t *words, uint16_t *sums, uint8_t *spread, uint32_t pilot, uint32_t reading);
+struct lahzavar_answer lahzavar_terminate(uint64_t *words, uint16_t *sums, uint8_t *spread);
+struct lahzavar_answer lahzavar_link_up(uint64_t *words, uint16_t *sums, uint8_t *spread);
+void lahzavar_wipe(uint64_t *words, uint16_t *sums, uint8_t *spread);
+struct lahzavar_heard lahzavar_query(const uint64_t *words, const uint16_t *sums, const uint8_t *spread, uint64_t car,
+                                     uint8_t *least, uint8_t *greatest);
 uint32_t lahzavar_state(const uint64_t *words);
 uint32_t lahzavar_records_held(const uint64_t *words);
 uint32_t lahzavar_version(void);
 uint32_t lahzavar_words(void);
 uint32_t lahzavar_sums(void);
+uint32_t lahzavar_spread(void);
 uint32_t lahzavar_least_output(void);
 struct lahzavar_answer lahzavar_configure_car(uint64_t *words, uint64_t address, uint32_t reference);
 struct lahzavar_answer lahzavar_start_car(uint64_t *words, uint64_t run, uint64_t random_first, uint64_t random_last,
@@ -279,8 +288,9 @@ uint32_t lahzavar_least_output_of_car(void);
 static inline int lahzavar_library_fits(void)
 {
     return lahzavar_version() == LAHZAVAR_VERSION && lahzavar_words() == LAHZAVAR_WORDS &&
-           lahzavar_sums() == LAHZAVAR_SUMS && lahzavar_least_output() == LAHZAVAR_LEAST_OUTPUT &&
-           lahzavar_words_of_car() == LAHZAVAR_CAR_WORDS && lahzavar_least_output_of_car() == LAHZAVAR_CAR_LEAST_OUTPUT;
+           lahzavar_sums() == LAHZAVAR_SUMS && lahzavar_spread() == LAHZAVAR_SPREAD &&
+           lahzavar_least_output() == LAHZAVAR_LEAST_OUTPUT && lahzavar_words_of_car() == LAHZAVAR_CAR_WORDS &&
+           lahzavar_least_output_of_car() == LAHZAVAR_CAR_LEAST_OUTPUT;
 }
 
 /* The number that so many octets stand for, at most eight, the first one most significant; 0 for NULL. */
@@ -325,7 +335,7 @@ static inline struct lahzavar_answer lahzavar_no_station(void)
 static inline void lahzavar_station_wipe(struct lahzavar_station *station)
 {
     if (station != NULL) {
-        lahzavar_wipe(station->private_words, station->private_sums);
+        lahzavar_wipe(station->private_words, station->private_sums, station->private_spread);
     }
 }
 
@@ -346,8 +356,8 @@ static inline struct lahzavar_answer lahzavar_station_configure(struct lahzavar_
         lahzavar_station_wipe(station);
         return lahzavar_no_station();
     }
-    return lahzavar_configure(station->private_words, station->private_sums, address, modem, nid, lahzavar_number(nmk, 8),
-                              lahzavar_number(nmk + 8, 8), validation_not_required ? 1 : 0);
+    return lahzavar_configure(station->private_words, station->private_sums, station->private_spread, address, modem, nid,
+                              lahzavar_number(nmk, 8), lahzavar_number(nmk + 8, 8), validation_not_required ? 1 : 0);
 }
 
 /* A frame from the modem, from its destination address on and without its check sequence; NULL stands for no octets. */
@@ -359,8 +369,9 @@ static inline struct lahzavar_answer lahzavar_station_frame(struct lahzavar_stat
     if (station == NULL) {
         return lahzavar_no_station();
     }
-    return lahzavar_frame(station->private_words, station->private_sums, octets != NULL ? octets : &no_octets,
-                          octets != NULL ? length : 0, out != NULL ? out : &no_room, out != NULL ? room : 0);
+    return lahzavar_frame(station->private_words, station->private_sums, station->private_spread,
+                          octets != NULL ? octets : &no_octets, octets != NULL ? length : 0, out != NULL ? out : &no_room,
+                          out != NULL ? room : 0);
 }
 
 /*
@@ -375,8 +386,8 @@ static inline struct lahzavar_answer lahzavar_station_tick(struct lahzavar_stati
     if (station == NULL) {
         return lahzavar_no_station();
     }
-    return lahzavar_tick(station->private_words, station->private_sums, reading, out != NULL ? out : &no_room,
-                         out != NULL ? room : 0);
+    return lahzavar_tick(station->private_words, station->private_sums, station->private_spread, reading,
+                         out != NULL ? out : &no_room, out != NULL ? room : 0);
 }
 
 /*
@@ -390,26 +401,46 @@ static inline struct lahzavar_answer lahzavar_station_pilot(struct lahzavar_stat
     if (station == NULL) {
         return lahzavar_no_station();
     }
-    return lahzavar_pilot(station->private_words, station->private_sums, (uint32_t)pilot, reading);
+    return lahzavar_pilot(station->private_words, station->private_sums, station->private_spread, (uint32_t)pilot, reading);
 }
 
 /* Ends the matching or the link; a new matching begins with the next plug-in. */
 static inline struct lahzavar_answer lahzavar_station_terminate(struct lahzavar_station *station)
 {
-    return station == NULL ? lahzavar_no_station() : lahzavar_terminate(station->private_words, station->private_sums);
+    if (station == NULL) {
+        return lahzavar_no_station();
+    }
+    return lahzavar_terminate(station->private_words, station->private_sums, station->private_spread);
 }
 
 /* The modem has a link in the station's network. */
 static inline struct lahzavar_answer lahzavar_station_link_up(struct lahzavar_station *station)
 {
-    return station == NULL ? lahzavar_no_station() : lahzavar_link_up(station->private_words, station->private_sums);
+    if (station == NULL) {
+        return lahzavar_no_station();
+    }
+    return lahzavar_link_up(station->private_words, station->private_sums, station->private_spread);
 }
 
-/* How many sounds of a car's run were heard; LAHZAVAR_NO_RECORD where the car holds no record. */
-static inline struct lahzavar_heard lahzavar_station_sounds_heard(const struct lahzavar_station *station, uint64_t car)
+/*
+ * The service query: how many sounds of a car's run were heard, and, in the two arrays, the least and the greatest value
+ * that each carrier group had in the profiles counted since the car's last CM_SLAC_PARM.REQ. It changes nothing. Refused
+ * with LAHZAVAR_NO_RECORD where the car holds no record or its record counts no profile yet; the arrays then are as they
+ * were. An array that is not wanted may be NULL.
+ *
+ * The mean is in the report; how far least and greatest stand from it tells a bad cable from a noisy sound. A match takes
+ * the records away: ask when the report is sent.
+ */
+static inline struct lahzavar_heard lahzavar_station_query(const struct lahzavar_station *station, uint64_t car,
+                                                           uint8_t least[LAHZAVAR_GROUPS], uint8_t greatest[LAHZAVAR_GROUPS])
 {
-    struct lahzavar_heard none = {LAHZAVAR_BAD_CONFIGURATION, 0};
-    return station == NULL ? none : lahzavar_sounds_heard(station->private_words, station->private_sums, car);
+    uint8_t unwanted_least[LAHZAVAR_GROUPS] = {0}, unwanted_greatest[LAHZAVAR_GROUPS] = {0};
+    if (station == NULL) {
+        struct lahzavar_heard none = {LAHZAVAR_BAD_CONFIGURATION, 0};
+        return none;
+    }
+    return lahzavar_query(station->private_words, station->private_sums, station->private_spread, car,
+                          least != NULL ? least : unwanted_least, greatest != NULL ? greatest : unwanted_greatest);
 }
 
 /* The state, one of enum lahzavar_state_number; LAHZAVAR_UNMATCHED for NULL. */

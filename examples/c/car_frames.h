@@ -92,6 +92,15 @@ static inline size_t write_profile(uint8_t *frame, const uint8_t *modem, const u
     return length;
 }
 
+/* The same with a value for each group. */
+static inline size_t write_profile_of(uint8_t *frame, const uint8_t *modem, const uint8_t *station, const uint8_t *car,
+                                      const uint8_t values[LAHZAVAR_GROUPS])
+{
+    size_t length = write_profile(frame, modem, station, car, 0);
+    memcpy(frame + FRAME_HEAD + 8, values, LAHZAVAR_GROUPS);
+    return length;
+}
+
 static inline size_t write_rsp(uint8_t *frame, const struct car *car, const uint8_t *station)
 {
     size_t length = write_head(frame, station, car->address, CM_ATTEN_CHAR_RSP, 51);

@@ -120,6 +120,23 @@ static void count_refusal(uint32_t refusal)
     }
 }
 
+/* For field service: the lowest and the highest value of a car that gets its report now; a match takes them away. */
+static void log_spread(const uint8_t car[6])
+{
+    uint8_t least[LAHZAVAR_GROUPS], greatest[LAHZAVAR_GROUPS], low = UINT8_MAX, high = 0;
+    struct lahzavar_heard heard = lahzavar_station_query(&station, lahzavar_address(car), least, greatest);
+    unsigned group;
+    if (heard.refusal != LAHZAVAR_ACCEPTED) {
+        return;
+    }
+    for (group = 0; group < LAHZAVAR_GROUPS; group++) {
+        low = least[group] < low ? least[group] : low;
+        high = greatest[group] > high ? greatest[group] : high;
+    }
+    fprintf(stderr, "car %02X:%02X:%02X:%02X:%02X:%02X: %u sounds heard, %u to %u dB\n", car[0], car[1], car[2], car[3], car[4],
+            car[5], (unsigned)heard.sounds, low, high);
+}
+
 /* Puts each frame of the answer into the send queue, at its own length, keeps the indication, and counts a refusal. */
 static void obey(struct lahzavar_answer answer)
 {
@@ -127,6 +144,9 @@ static void obey(struct lahzavar_answer answer)
     for (at = 0; at < answer.octets; at += length) {
         length = lahzavar_frame_octets(output + at, answer.octets - at);
         put_frame(&to_send, output + at, length);
+        if (length == LAHZAVAR_REPORT_OCTETS) {
+            log_spread(output + at);
+        }
     }
     if (answer.indication != LAHZAVAR_NO_INDICATION) {
         last_indication = answer.indication;

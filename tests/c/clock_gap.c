@@ -65,6 +65,7 @@ static void refused(uint32_t reading, uint32_t count)
     }
     same("the words", reading, memcmp(station.private_words, before.private_words, sizeof before.private_words) != 0, 0);
     same("the sums", reading, memcmp(station.private_sums, before.private_sums, sizeof before.private_sums) != 0, 0);
+    same("the spread", reading, memcmp(station.private_spread, before.private_spread, sizeof before.private_spread) != 0, 0);
     same("the output", reading, memcmp(out, zeros, sizeof out) != 0, 0);
 }
 

@@ -16,6 +16,7 @@ static const struct car first = {{2, 0, 0, 0, 0, 1}, {1, 2, 3, 4, 5, 6, 7, 8}};
 static struct lahzavar_station station;
 static uint8_t out[LAHZAVAR_LEAST_OUTPUT + 1];
 static uint8_t frame[FRAME_MOST];
+static uint8_t least[LAHZAVAR_GROUPS + 1], greatest[LAHZAVAR_GROUPS + 1]; /* what the query fills, and an octet more */
 
 static struct car car_at(unsigned last)
 {
@@ -65,6 +66,7 @@ static void sizes(void)
     same("patch", lahzavar_version() & 0xFF, LAHZAVAR_PATCH);
     same("words", lahzavar_words(), LAHZAVAR_WORDS);
     same("sums", lahzavar_sums(), LAHZAVAR_SUMS);
+    same("spread", lahzavar_spread(), LAHZAVAR_SPREAD);
     same("least output", lahzavar_least_output(), LAHZAVAR_LEAST_OUTPUT);
     same("words of a car", lahzavar_words_of_car(), LAHZAVAR_CAR_WORDS);
     same("least output of a car", lahzavar_least_output_of_car(), LAHZAVAR_CAR_LEAST_OUTPUT);
@@ -74,6 +76,8 @@ static void sizes(void)
     same("key in numbers", sizeof(struct lahzavar_key_numbers), 40);
     same("a car", sizeof(struct lahzavar_car), 8 * LAHZAVAR_CAR_WORDS);
     same("sums in the station", offsetof(struct lahzavar_station, private_sums), 8 * LAHZAVAR_WORDS);
+    same("spread in the station", offsetof(struct lahzavar_station, private_spread), 8 * LAHZAVAR_WORDS + 2 * LAHZAVAR_SUMS);
+    same("a station", sizeof(struct lahzavar_station), 8 * LAHZAVAR_WORDS + 2 * LAHZAVAR_SUMS + LAHZAVAR_SPREAD);
     same("address", (size_t)lahzavar_address(us), 0x0200000000AAu);
     same("NID", (size_t)lahzavar_nid(nid), 0x07060504030201u);
 }
@@ -136,8 +140,6 @@ static void refusals_of_matching(void)
     same("start", hear(write_start(frame, &first)).refusal, LAHZAVAR_ACCEPTED);
     same("sound 9", hear(write_sound(frame, &first, 9)).refusal, LAHZAVAR_ACCEPTED);
     same("sound 10", hear(write_sound(frame, &first, 10)).refusal, LAHZAVAR_BAD_SOUND_COUNT);
-    same("sounds heard", lahzavar_station_sounds_heard(&station, lahzavar_address(first.address)).sounds, 1);
-    same("sounds of no record", lahzavar_station_sounds_heard(&station, lahzavar_address(us)).refusal, LAHZAVAR_NO_RECORD);
     same("link up", lahzavar_station_link_up(&station).refusal, LAHZAVAR_WRONG_STATE);
     same("pilot 6", lahzavar_station_pilot(&station, no_pilot, 0).refusal, LAHZAVAR_WRONG_STATE);
     same("tick gap", tick(60001).refusal, LAHZAVAR_TICK_GAP);
@@ -161,6 +163,40 @@ static void end_of_admission(void)
     same("unmatched", lahzavar_station_state(&station), LAHZAVAR_UNMATCHED);
 }
 
+/* The query, which leaves the station as it was. */
+static struct lahzavar_heard query(const struct lahzavar_station *other, const uint8_t *address)
+{
+    struct lahzavar_station before = station;
+    struct lahzavar_heard heard;
+    memset(least, 0xEE, sizeof least);
+    memset(greatest, 0xEE, sizeof greatest);
+    heard = lahzavar_station_query(other, lahzavar_address(address), least, greatest);
+    same("the station behind a query", (size_t)memcmp(&station, &before, sizeof before), 0);
+    same("the octet behind the least values", least[LAHZAVAR_GROUPS], 0xEE);
+    same("the octet behind the greatest values", greatest[LAHZAVAR_GROUPS], 0xEE);
+    return heard;
+}
+
+/* A refused query tells nothing, and leaves both arrays as they were. */
+static void query_refused(const struct lahzavar_station *other, const uint8_t *address, uint32_t refusal)
+{
+    struct lahzavar_heard heard = query(other, address);
+    same("the query's refusal", heard.refusal, refusal);
+    same("its sounds", heard.sounds, 0);
+    all_octets("an octet of the least values", least, sizeof least, 0xEE);
+    all_octets("an octet of the greatest values", greatest, sizeof greatest, 0xEE);
+}
+
+/* The query gives so many sounds, and in every group these values. */
+static void query_gives(const struct car *car, uint32_t sounds, unsigned low, unsigned high)
+{
+    struct lahzavar_heard heard = query(&station, car->address);
+    same("the query's refusal", heard.refusal, LAHZAVAR_ACCEPTED);
+    same("sounds heard", heard.sounds, sounds);
+    all_octets("a least value", least, LAHZAVAR_GROUPS, (uint8_t)low);
+    all_octets("a greatest value", greatest, LAHZAVAR_GROUPS, (uint8_t)high);
+}
+
 /* A station that was badly configured or wiped, or NULL: every call answers 16, and no output is written. */
 static void answers_nothing(struct lahzavar_station *other)
 {
@@ -174,8 +210,8 @@ static void answers_nothing(struct lahzavar_station *other)
     same("pilot 6", lahzavar_station_pilot(other, no_pilot, 0).refusal, LAHZAVAR_BAD_CONFIGURATION);
     same("terminate", lahzavar_station_terminate(other).refusal, LAHZAVAR_BAD_CONFIGURATION);
     same("link up", lahzavar_station_link_up(other).refusal, LAHZAVAR_BAD_CONFIGURATION);
-    same("query", lahzavar_station_sounds_heard(other, 1).refusal, LAHZAVAR_BAD_CONFIGURATION);
-    same("sounds", lahzavar_station_sounds_heard(other, 1).sounds, 0);
+    query_refused(other, first.address, LAHZAVAR_BAD_CONFIGURATION);
+    same("query without arrays", lahzavar_station_query(other, 1, NULL, NULL).refusal, LAHZAVAR_BAD_CONFIGURATION);
     same("state", lahzavar_station_state(other), LAHZAVAR_UNMATCHED);
     same("records held", lahzavar_station_records_held(other), 0);
     all_octets("an octet of the output", out, sizeof out, 0xEE);
@@ -237,6 +273,7 @@ static void wiped_station(void)
     for (at = 0; at < LAHZAVAR_SUMS; at++) {
         same("a wiped sum", room.station.private_sums[at], 0);
     }
+    all_octets("an octet of a wiped spread", room.station.private_spread, LAHZAVAR_SPREAD, 0);
     all_octets("an octet before a wiped station", room.before, sizeof room.before, 0xEE);
     all_octets("an octet behind a wiped station", room.after, sizeof room.after, 0xEE);
     answers_nothing(&room.station);
@@ -362,13 +399,109 @@ static void exemptions(void)
     static const uint32_t numbers[] = {0, 1, 2, 256, 0x80000000u, UINT32_MAX};
     size_t at;
     for (at = 0; at < sizeof numbers / sizeof *numbers; at++) {
-        struct lahzavar_answer answer = lahzavar_configure(station.private_words, station.private_sums, lahzavar_address(us),
-                                                           lahzavar_address(modem), lahzavar_nid(nid), 1, 2, numbers[at]);
+        struct lahzavar_answer answer =
+            lahzavar_configure(station.private_words, station.private_sums, station.private_spread, lahzavar_address(us),
+                               lahzavar_address(modem), lahzavar_nid(nid), 1, 2, numbers[at]);
         same("configuring", answer.refusal, LAHZAVAR_ACCEPTED);
         pilot(LAHZAVAR_PILOT_B);
         awaited(&first);
         asked_to_validate(&first, numbers[at] == 0 ? 1 : 4);
     }
+}
+
+/* A profile of our modem about a car, the same value in every group. */
+static void measured(const struct car *car, unsigned value)
+{
+    same("a profile", hear(write_profile(frame, modem, us, car->address, value)).refusal, LAHZAVAR_ACCEPTED);
+}
+
+/* The query from a car's request until its match: 11 before the first profile, then the spread of those counted so far. */
+static void spread_of_a_session(void)
+{
+    struct car second = car_at(2);
+    unsigned profile;
+    plug_in();
+    query_refused(&station, first.address, LAHZAVAR_NO_RECORD);
+    (void)hear(write_parm_req(frame, &first));
+    query_refused(&station, first.address, LAHZAVAR_NO_RECORD);
+    (void)hear(write_start(frame, &first));
+    same("a sound", hear(write_sound(frame, &first, 9)).refusal, LAHZAVAR_ACCEPTED);
+    query_refused(&station, first.address, LAHZAVAR_NO_RECORD);
+    measured(&first, 30);
+    query_gives(&first, 1, 30, 30);
+    measured(&first, 255);
+    query_gives(&first, 1, 30, 255);
+    measured(&first, 0);
+    query_gives(&first, 1, 0, 255);
+    same("a profile of no record", hear(write_profile(frame, modem, us, second.address, 7)).refusal, LAHZAVAR_NO_RECORD);
+    query_refused(&station, second.address, LAHZAVAR_NO_RECORD);
+    same("a request again", hear(write_parm_req(frame, &first)).refusal, LAHZAVAR_ACCEPTED);
+    query_refused(&station, first.address, LAHZAVAR_NO_RECORD);
+    (void)hear(write_start(frame, &first));
+    for (profile = 0; profile < 9; profile++) {
+        measured(&first, 40);
+    }
+    query_gives(&first, 0, 40, 40);
+    measured(&first, 41);
+    query_gives(&first, 0, 40, 41);
+    same("a profile too many", hear(write_profile(frame, modem, us, first.address, 90)).refusal, LAHZAVAR_WRONG_PHASE);
+    query_gives(&first, 0, 40, 41);
+    (void)hear(write_rsp(frame, &first, us));
+    query_gives(&first, 0, 40, 41);
+    (void)hear(write_match_req(frame, &first, us));
+    query_refused(&station, first.address, LAHZAVAR_NO_RECORD);
+}
+
+/* Each car and each group has values of its own. */
+static void spread_of_cars(void)
+{
+    uint8_t low[LAHZAVAR_GROUPS], high[LAHZAVAR_GROUPS];
+    unsigned last, group;
+    for (group = 0; group < LAHZAVAR_GROUPS; group++) {
+        low[group] = (uint8_t)group;
+        high[group] = (uint8_t)(255 - group);
+    }
+    plug_in();
+    for (last = 1; last <= LAHZAVAR_RECORDS; last++) {
+        struct car car = car_at(last);
+        (void)hear(write_parm_req(frame, &car));
+        (void)hear(write_start(frame, &car));
+        measured(&car, 100 + last);
+    }
+    same("low values", hear(write_profile_of(frame, modem, us, first.address, low)).refusal, LAHZAVAR_ACCEPTED);
+    same("a query", query(&station, first.address).refusal, LAHZAVAR_ACCEPTED);
+    same("the least values", (size_t)memcmp(least, low, sizeof low), 0);
+    all_octets("a greatest value", greatest, LAHZAVAR_GROUPS, 101);
+    same("high values", hear(write_profile_of(frame, modem, us, first.address, high)).refusal, LAHZAVAR_ACCEPTED);
+    same("a query", query(&station, first.address).refusal, LAHZAVAR_ACCEPTED);
+    same("the least values", (size_t)memcmp(least, low, sizeof low), 0);
+    same("the greatest values", (size_t)memcmp(greatest, high, sizeof high), 0);
+    for (last = 2; last <= LAHZAVAR_RECORDS; last++) {
+        struct car car = car_at(last);
+        query_gives(&car, 0, 100 + last, 100 + last);
+    }
+    query_refused(&station, us, LAHZAVAR_NO_RECORD);
+}
+
+/* An array that is NULL is left out, the other one is filled. */
+static void missing_arrays(void)
+{
+    uint64_t car = lahzavar_address(first.address);
+    plug_in();
+    (void)hear(write_parm_req(frame, &first));
+    (void)hear(write_start(frame, &first));
+    same("no arrays, too early", lahzavar_station_query(&station, car, NULL, NULL).refusal, LAHZAVAR_NO_RECORD);
+    (void)hear(write_sound(frame, &first, 0));
+    measured(&first, 20);
+    measured(&first, 23);
+    query_gives(&first, 1, 20, 23);
+    same("no arrays", lahzavar_station_query(&station, car, NULL, NULL).sounds, 1);
+    memset(least, 0xEE, sizeof least);
+    same("the least values alone", lahzavar_station_query(&station, car, least, NULL).sounds, 1);
+    all_octets("a least value", least, LAHZAVAR_GROUPS, 20);
+    memset(greatest, 0xEE, sizeof greatest);
+    same("the greatest values alone", lahzavar_station_query(&station, car, NULL, greatest).sounds, 1);
+    all_octets("a greatest value", greatest, LAHZAVAR_GROUPS, 23);
 }
 
 /* The frames of one tick: reports, and behind them a confirmation, each at its own length. */
@@ -445,6 +578,9 @@ int main(void)
     validation();
     other_validations();
     exemptions();
+    spread_of_a_session();
+    spread_of_cars();
+    missing_arrays();
     frames_of_a_tick();
     pilots();
     return faults == 0 ? 0 : 1;

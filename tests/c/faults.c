@@ -11,7 +11,8 @@
 
 static struct lahzavar_station stages[STAGES];
 static struct car cars[CARS];
-static struct zone whole; /* a station as one piece */
+static struct zone whole;           /* a station as one piece */
+static struct zone least, greatest; /* what the query fills */
 static const uint8_t us[6] = {2, 0, 0, 0, 0, 0xAA};
 static const uint8_t modem[6] = {2, 0, 0, 0, 0, 0xBB};
 static const uint8_t nid[7] = {1, 2, 3, 4, 5, 6, 7};
@@ -53,6 +54,7 @@ static void lend_changed(void)
     size_t chance = below(8) == 0 ? 1 : 8 + below(100);
     uint64_t *word = (uint64_t *)(void *)take(&words, sizeof stage->private_words);
     uint16_t *sum = (uint16_t *)(void *)take(&sums, sizeof stage->private_sums);
+    uint8_t *bound = take(&spread, sizeof stage->private_spread);
     size_t at;
     for (at = 0; at < LAHZAVAR_WORDS; at++) {
         uint64_t now = stage->private_words[at];
@@ -61,6 +63,10 @@ static void lend_changed(void)
     for (at = 0; at < LAHZAVAR_SUMS; at++) {
         uint16_t now = stage->private_sums[at];
         sum[at] = below(chance) == 0 ? (uint16_t)changed(now, some_car()) : now;
+    }
+    for (at = 0; at < LAHZAVAR_SPREAD; at++) {
+        uint8_t now = stage->private_spread[at];
+        bound[at] = below(chance) == 0 ? (uint8_t)changed(now, some_car()) : now;
     }
 }
 
@@ -100,59 +106,84 @@ static void call_frame(size_t which)
     lend_frame(frame, write_frame(frame, which, &cars[below(CARS)]));
     lend_output(LAHZAVAR_LEAST_OUTPUT);
     begin("frame");
-    check(lahzavar_frame(lent_words(), lent_sums(), octets.reading + octets.at, octets.size, out.view + out.at, out.size));
+    check(lahzavar_frame(lent_words(), lent_sums(), lent_spread(), octets.reading + octets.at, octets.size, out.view + out.at,
+                         out.size));
 }
 
 static void call_tick(void)
 {
     lend_output(LAHZAVAR_LEAST_OUTPUT);
     begin("tick");
-    check(lahzavar_tick(lent_words(), lent_sums(), some_reading(), out.view + out.at, out.size));
+    check(lahzavar_tick(lent_words(), lent_sums(), lent_spread(), some_reading(), out.view + out.at, out.size));
 }
 
 static void call_pilot(void)
 {
     begin("pilot");
-    check(lahzavar_pilot(lent_words(), lent_sums(), (uint32_t)(below(8) == 0 ? next_random() : below(8)),
+    check(lahzavar_pilot(lent_words(), lent_sums(), lent_spread(), (uint32_t)(below(8) == 0 ? next_random() : below(8)),
                          (uint32_t)next_random()));
 }
 
 static void call_terminate(void)
 {
     begin("terminate");
-    check(lahzavar_terminate(lent_words(), lent_sums()));
+    check(lahzavar_terminate(lent_words(), lent_sums(), lent_spread()));
 }
 
 static void call_link_up(void)
 {
     begin("link up");
-    check(lahzavar_link_up(lent_words(), lent_sums()));
+    check(lahzavar_link_up(lent_words(), lent_sums(), lent_spread()));
+}
+
+/* A call that reads leaves the station as it was. */
+static void check_read(void)
+{
+    check_zone(&words, 0, "words changed that may not");
+    check_zone(&sums, 0, "sums changed that may not");
+    check_zone(&spread, 0, "a spread changed that may not");
+}
+
+/* The query: a refused one tells nothing, and leaves the arrays that it would fill. */
+static void call_query(void)
+{
+    const uint16_t *sum = (const uint16_t *)(const void *)(sums.reading + sums.at);
+    uint8_t *low = take(&least, LAHZAVAR_GROUPS), *high = take(&greatest, LAHZAVAR_GROUPS);
+    struct lahzavar_heard heard;
+    size_t filled;
+    begin("query");
+    keep(&least);
+    keep(&greatest);
+    heard = lahzavar_query(read_words(), sum, spread.reading + spread.at, below(4) == 0 ? next_random() : some_car(), low, high);
+    check_read();
+    check_refusal(heard.refusal);
+    if (heard.sounds > 10 || (heard.refusal != LAHZAVAR_ACCEPTED && heard.sounds != 0)) {
+        fail("a number out of range");
+    }
+    filled = heard.refusal == LAHZAVAR_ACCEPTED ? LAHZAVAR_GROUPS : 0;
+    check_zone(&least, filled, "least values changed that may not");
+    check_zone(&greatest, filled, "greatest values changed that may not");
+    accepted += filled != 0;
 }
 
 /* The calls that read: their arrays are lent through the view that can't be written. */
 static void call_readers(void)
 {
-    const uint16_t *sum = (const uint16_t *)(const void *)(sums.reading + sums.at);
-    struct lahzavar_heard heard;
-    begin("sounds heard, state or records held");
-    heard = lahzavar_sounds_heard(read_words(), sum, below(4) == 0 ? next_random() : some_car());
-    check_refusal(heard.refusal);
-    if (heard.sounds > 10 || (heard.refusal != 0 && heard.sounds != 0)) {
-        fail("a number out of range");
-    }
+    call_query();
+    begin("state or records held");
     if (lahzavar_state(read_words()) > (wiped ? LAHZAVAR_UNMATCHED : LAHZAVAR_MATCHED) ||
         lahzavar_records_held(read_words()) > (wiped ? 0 : LAHZAVAR_RECORDS)) {
         fail("a number out of range");
     }
-    check_zone(&words, 0, "words changed that may not");
-    check_zone(&sums, 0, "sums changed that may not");
+    check_read();
 }
 
 static void call_configure(void)
 {
     begin("configure");
-    check_configured(lahzavar_configure(lent_words(), lent_sums(), changed(0, some_car()), changed(1, some_car()),
-                                        changed(2, 3), next_random(), next_random(), (uint32_t)changed(0, 1)));
+    check_configured(lahzavar_configure(lent_words(), lent_sums(), lent_spread(), changed(0, some_car()),
+                                        changed(1, some_car()), changed(2, 3), next_random(), next_random(),
+                                        (uint32_t)changed(0, 1)));
 }
 
 /* One call of a kind: frames 0 to 9, tick, pilot, terminate, link up, readers. */
@@ -166,20 +197,22 @@ static void call(size_t kind)
     }
 }
 
-/* Wipes the station that is lent as two pieces, and the same as one piece through the header. */
+/* Wipes the station that is lent as three pieces, and the same as one piece through the header. */
 static void call_wipes(void)
 {
     struct lahzavar_station *station = (struct lahzavar_station *)(void *)take(&whole, sizeof *station);
     memset(station, 0, sizeof *station);
     memcpy(station->private_words, lent_words(), words.size);
     memcpy(station->private_sums, lent_sums(), sums.size);
+    memcpy(station->private_spread, lent_spread(), spread.size);
     keep(&whole);
     begin("wipe");
     lahzavar_station_wipe(station);
     check_wiped(&whole);
-    lahzavar_wipe(lent_words(), lent_sums());
+    lahzavar_wipe(lent_words(), lent_sums(), lent_spread());
     check_wiped(&words);
     check_wiped(&sums);
+    check_wiped(&spread);
 }
 
 /* Every call, each on a station changed anew, and then a few on what it left; then on a wiped one. */
@@ -255,6 +288,8 @@ static void set_up(void)
     uint8_t room[LAHZAVAR_LEAST_OUTPUT];
     size_t at;
     make_zone(&whole);
+    make_zone(&least);
+    make_zone(&greatest);
     for (at = 0; at < CARS; at++) {
         static const struct car model = {{2, 0, 0, 0, 0, 0}, {7, 7, 7, 7, 7, 7, 7, 7}};
         cars[at] = model;

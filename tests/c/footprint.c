@@ -16,6 +16,7 @@ static const uint8_t nmk[16] = {0x4B};
 
 static struct lahzavar_station station;
 static uint8_t out[LAHZAVAR_LEAST_OUTPUT];
+static uint8_t least[LAHZAVAR_GROUPS], greatest[LAHZAVAR_GROUPS];
 static uint8_t frame[FRAME_MOST];
 static size_t length;
 static uint32_t reading;
@@ -53,9 +54,9 @@ static void call_link_up(void)
     answer = lahzavar_station_link_up(&station);
 }
 
-static void call_sounds(void)
+static void call_query(void)
 {
-    answer.refusal = lahzavar_station_sounds_heard(&station, 0x020000000001u).refusal;
+    answer.refusal = lahzavar_station_query(&station, 0x020000000001u, least, greatest).refusal;
 }
 
 static void call_state(void)
@@ -73,7 +74,7 @@ static void call_wipe(void)
     lahzavar_station_wipe(&station);
 }
 
-enum call { CONFIGURE, FRAME, MATCH, TICK, PILOT, TERMINATE, LINK_UP, SOUNDS, STATE, RECORDS, WIPE, CALLS };
+enum call { CONFIGURE, FRAME, MATCH, TICK, PILOT, TERMINATE, LINK_UP, QUERY, STATE, RECORDS, WIPE, CALLS };
 
 static struct figure figures[CALLS] = {
     {"lahzavar_station_configure", call_configure, 0},
@@ -83,7 +84,7 @@ static struct figure figures[CALLS] = {
     {"lahzavar_station_pilot", call_pilot, 0},
     {"lahzavar_station_terminate", call_terminate, 0},
     {"lahzavar_station_link_up", call_link_up, 0},
-    {"lahzavar_station_sounds_heard", call_sounds, 0},
+    {"lahzavar_station_query", call_query, 0},
     {"lahzavar_station_state", call_state, 0},
     {"lahzavar_station_records_held", call_records, 0},
     {"lahzavar_station_wipe", call_wipe, 0},
@@ -97,7 +98,7 @@ static void measure_frame(size_t octets)
 
 static void measure_readers(void)
 {
-    measure(&figures[SOUNDS]);
+    measure(&figures[QUERY]);
     measure(&figures[STATE]);
     measure(&figures[RECORDS]);
 }

@@ -39,7 +39,7 @@ struct limits {
     size_t (*octets_of)(unsigned type); /* the octets of a frame that it sends; 0 for a type that it never does */
 };
 
-static struct zone words, sums, octets, out;
+static struct zone words, sums, spread, octets, out;
 static int on_heap;
 static int wiped; /* every call is to answer 16 */
 static const char *calling = "setting up";
@@ -137,6 +137,11 @@ static inline uint16_t *lent_sums(void)
     return (uint16_t *)(void *)(sums.view + sums.at);
 }
 
+static inline uint8_t *lent_spread(void)
+{
+    return spread.view + spread.at;
+}
+
 /* The words through the view that can't be written. */
 static inline const uint64_t *read_words(void)
 {
@@ -149,6 +154,7 @@ static inline void begin(const char *call)
     calling = call;
     keep(&words);
     keep(&sums);
+    keep(&spread);
     keep(&octets);
     keep(&out);
     calls++;
@@ -203,11 +209,12 @@ static inline void check_answer(struct lahzavar_answer answer, const struct limi
     check_frames(answer, limits);
     check_zone(&words, refused ? 0 : words.size, "words changed that may not");
     check_zone(&sums, refused ? 0 : sums.size, "sums changed that may not");
+    check_zone(&spread, refused ? 0 : spread.size, "a spread changed that may not");
     check_zone(&octets, 0, "the frame was changed");
     check_zone(&out, answer.octets, "output changed that may not");
 }
 
-/* What configuring promises: words and sums change, whether it is refused or not. */
+/* What configuring promises: words, sums and spread change, whether it is refused or not. */
 static inline void check_configured(struct lahzavar_answer answer)
 {
     if (answer.refusal != LAHZAVAR_ACCEPTED && answer.refusal != LAHZAVAR_BAD_CONFIGURATION) {
@@ -218,6 +225,7 @@ static inline void check_configured(struct lahzavar_answer answer)
     }
     check_zone(&words, words.size, "words changed that may not");
     check_zone(&sums, sums.size, "sums changed that may not");
+    check_zone(&spread, spread.size, "a spread changed that may not");
 }
 
 /* One word, changed in one of several ways; the address is one that the end knows. */
@@ -295,7 +303,7 @@ static inline uint32_t some_reading(void)
 static inline int run_rounds(int count, char **arguments, void (*set_up)(void), void (*round_of_calls)(void))
 {
     static const int signals[] = {SIGSEGV, SIGBUS, SIGILL, SIGFPE, SIGABRT, SIGALRM};
-    struct zone *zones[] = {&words, &sums, &octets, &out};
+    struct zone *zones[] = {&words, &sums, &spread, &octets, &out};
     unsigned long rounds = count > 1 ? strtoul(arguments[1], NULL, 10) : 10000;
     size_t at;
     random_state = count > 2 ? strtoull(arguments[2], NULL, 10) : 1;

@@ -72,10 +72,10 @@
 //!
 //! # Memory and threads
 //!
-//! The crate is `no_std`, has no dependencies and allocates nothing; no call blocks. A station is a
-//! kilobyte of its owner's memory, a car less than a third of that. Both are [`Send`]: they may be
-//! handed to another thread. Their events take `&mut`, so that no two of them run on one station or
-//! car at the same time; on two they may.
+//! The crate is `no_std`, has no dependencies and allocates nothing; no call blocks. A station is
+//! about one and a half kilobytes of its owner's memory, a car less than a fifth of that. Both are
+//! [`Send`]: they may be handed to another thread. Their events take `&mut`, so that no two of them
+//! run on one station or car at the same time; on two they may.
 //!
 //! # The key
 //!
@@ -109,6 +109,7 @@ mod key;
 mod numbers;
 mod octets;
 mod raw;
+mod spread;
 mod station;
 
 pub use answers::{Answer, Done, Frames};
@@ -116,6 +117,7 @@ pub use car::Car;
 pub use configuration::Configuration;
 pub use key::Key;
 pub use numbers::{CarState, Indication, Pilot, Refusal, State, UnknownNumber};
+pub use spread::Spread;
 pub use station::Station;
 
 /// The most cars that are in matching at once.
@@ -133,12 +135,13 @@ pub const STATIONS: usize = 10;
 /// The least room that [`Car::start`], [`Car::frame`] and [`Car::tick`] ask for: a
 /// `CM_SLAC_MATCH.REQ`.
 pub const CAR_LEAST_OUTPUT: usize = 85;
-/// The version of the library that this wrapper describes, 0.4.0: 65536 times its first number, 256
+/// The version of the library that this wrapper describes, 0.5.0: 65536 times its first number, 256
 /// times its second, and its third.
-pub const VERSION: u32 = 256 * 4;
+pub const VERSION: u32 = 256 * 5;
 
 const WORDS: usize = 13 + 8 * RECORDS;
 const SUMS: usize = GROUPS * RECORDS;
+const SPREAD: usize = 2 * GROUPS * RECORDS;
 const CAR_WORDS: usize = 16 + 2 * STATIONS;
 
 /// Whether the library is the one that this wrapper describes; [`Station::new`] and [`Car::new`]
@@ -149,11 +152,12 @@ const CAR_WORDS: usize = 16 + 2 * STATIONS;
 /// ```
 #[must_use]
 pub fn library_fits() -> bool {
-    // SAFETY: these six take nothing and give a number.
+    // SAFETY: these seven take nothing and give a number.
     unsafe {
         raw::lahzavar_version() == VERSION
             && raw::lahzavar_words() as usize == WORDS
             && raw::lahzavar_sums() as usize == SUMS
+            && raw::lahzavar_spread() as usize == SPREAD
             && raw::lahzavar_least_output() as usize == LEAST_OUTPUT
             && raw::lahzavar_words_of_car() as usize == CAR_WORDS
             && raw::lahzavar_least_output_of_car() as usize == CAR_LEAST_OUTPUT

@@ -54,7 +54,8 @@ pub enum Refusal {
     AdmissionClosed,
     /// 10: a new car while every record is held.
     RecordsFull,
-    /// 11: this car holds no record, or another run; at a car: another run or station.
+    /// 11: this car holds no record, or another run; at a car: another run or station; to the query:
+    /// no record, or one that counts no profile.
     NoRecord,
     /// 12: the car's record is in another phase.
     WrongPhase,
@@ -97,7 +98,10 @@ const REFUSALS: [(Refusal, &str); 20] = [
     (Refusal::WrongState, "the state takes no such event"),
     (Refusal::AdmissionClosed, "a new car asks after the end of admission"),
     (Refusal::RecordsFull, "a new car asks while other cars hold every record"),
-    (Refusal::NoRecord, "there is no such record, run or chosen station"),
+    (
+        Refusal::NoRecord,
+        "there is no such record, run or chosen station, or no profile is counted yet",
+    ),
     (Refusal::WrongPhase, "the car's record is in another phase"),
     (Refusal::BadSoundCount, "the sound's count is too high, or was heard already"),
     (Refusal::TickGap, "the clock is more than 60 seconds past the last reading that was taken"),

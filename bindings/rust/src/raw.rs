@@ -1,6 +1,6 @@
 //! What liblahzavar.a exports; include/lahzavar.h has the same in C.
 
-use crate::{CAR_WORDS, SUMS, WORDS};
+use crate::{CAR_WORDS, GROUPS, SPREAD, SUMS, WORDS};
 
 /// A refusal or 0, an indication or 0, the frames reported and their octets.
 #[repr(C)]
@@ -30,12 +30,15 @@ pub struct KeyNumbers {
 
 pub type Words = [u64; WORDS];
 pub type Sums = [u16; SUMS];
+pub type Spreads = [u8; SPREAD];
+pub type Values = [u8; GROUPS];
 pub type CarWords = [u64; CAR_WORDS];
 
 extern "C" {
     pub fn lahzavar_configure(
         words: &mut Words,
         sums: &mut Sums,
+        spread: &mut Spreads,
         address: u64,
         modem: u64,
         nid: u64,
@@ -46,6 +49,7 @@ extern "C" {
     pub fn lahzavar_frame(
         words: &mut Words,
         sums: &mut Sums,
+        spread: &mut Spreads,
         octets: *const u8,
         length: usize,
         out: *mut u8,
@@ -54,21 +58,36 @@ extern "C" {
     pub fn lahzavar_tick(
         words: &mut Words,
         sums: &mut Sums,
+        spread: &mut Spreads,
         reading: u32,
         out: *mut u8,
         room: usize,
     ) -> Answered;
-    pub fn lahzavar_pilot(words: &mut Words, sums: &mut Sums, pilot: u32, reading: u32)
+    pub fn lahzavar_pilot(
+        words: &mut Words,
+        sums: &mut Sums,
+        spread: &mut Spreads,
+        pilot: u32,
+        reading: u32,
+    ) -> Answered;
+    pub fn lahzavar_terminate(words: &mut Words, sums: &mut Sums, spread: &mut Spreads)
         -> Answered;
-    pub fn lahzavar_terminate(words: &mut Words, sums: &mut Sums) -> Answered;
-    pub fn lahzavar_link_up(words: &mut Words, sums: &mut Sums) -> Answered;
-    pub fn lahzavar_wipe(words: &mut Words, sums: &mut Sums);
-    pub fn lahzavar_sounds_heard(words: &Words, sums: &Sums, car: u64) -> Heard;
+    pub fn lahzavar_link_up(words: &mut Words, sums: &mut Sums, spread: &mut Spreads) -> Answered;
+    pub fn lahzavar_wipe(words: &mut Words, sums: &mut Sums, spread: &mut Spreads);
+    pub fn lahzavar_query(
+        words: &Words,
+        sums: &Sums,
+        spread: &Spreads,
+        car: u64,
+        least: &mut Values,
+        greatest: &mut Values,
+    ) -> Heard;
     pub fn lahzavar_state(words: &Words) -> u32;
     pub fn lahzavar_records_held(words: &Words) -> u32;
     pub fn lahzavar_version() -> u32;
     pub fn lahzavar_words() -> u32;
     pub fn lahzavar_sums() -> u32;
+    pub fn lahzavar_spread() -> u32;
     pub fn lahzavar_least_output() -> u32;
     pub fn lahzavar_configure_car(words: &mut CarWords, address: u64, reference: u32) -> Answered;
     pub fn lahzavar_start_car(

@@ -2,8 +2,9 @@
 
 use crate::answers::{accepted, answer};
 use crate::octets::{halves, number};
-use crate::raw::{self, Sums, Words};
-use crate::{library_fits, Answer, Configuration, Pilot, Refusal, State, SUMS, WORDS};
+use crate::raw::{self, Spreads, Sums, Words};
+use crate::{library_fits, Answer, Configuration, Pilot, Refusal, Spread, State};
+use crate::{GROUPS, SPREAD, SUMS, WORDS};
 use core::fmt;
 
 /// A station: plain memory of its own, in which the NMK stands too. It is wiped on drop.
@@ -11,6 +12,7 @@ use core::fmt;
 pub struct Station {
     words: Words,
     sums: Sums,
+    spread: Spreads,
 }
 
 impl Station {
@@ -41,7 +43,7 @@ impl Station {
     /// ```
     pub fn new(configuration: &Configuration) -> Result<Station, Refusal> {
         assert!(library_fits(), "another version of the library is linked");
-        let mut station = Station { words: [0; WORDS], sums: [0; SUMS] };
+        let mut station = Station { words: [0; WORDS], sums: [0; SUMS], spread: [0; SPREAD] };
         station.configure(configuration)?;
         Ok(station)
     }
@@ -58,10 +60,10 @@ impl Station {
         let (address, modem) = (number(address), number(modem));
         let nid = nid.iter().rev().fold(0, |number, octet| number << 8 | u64::from(*octet));
         let ((first, last), exempt) = (halves(nmk), u32::from(*validation_not_required));
-        let Station { words, sums } = self;
-        // SAFETY: both arrays are ours and of the library's lengths.
+        let Station { words, sums, spread } = self;
+        // SAFETY: the arrays are ours and of the library's lengths.
         let answered = unsafe {
-            raw::lahzavar_configure(words, sums, address, modem, nid, first, last, exempt)
+            raw::lahzavar_configure(words, sums, spread, address, modem, nid, first, last, exempt)
         };
         accepted(answered.refusal)
     }
@@ -84,8 +86,8 @@ impl Station {
     /// # Ok::<(), Refusal>(())
     /// ```
     pub fn wipe(&mut self) {
-        // SAFETY: both arrays are ours and of the library's lengths.
-        unsafe { raw::lahzavar_wipe(&mut self.words, &mut self.sums) }
+        // SAFETY: the arrays are ours and of the library's lengths.
+        unsafe { raw::lahzavar_wipe(&mut self.words, &mut self.sums, &mut self.spread) }
     }
 
     /// A frame from the modem, from its destination address on and without its check sequence.
@@ -94,13 +96,14 @@ impl Station {
     ///
     /// Any refusal from 1 to 17 but [`Refusal::TickGap`]; station and output are as they were.
     pub fn frame<'a>(&mut self, octets: &[u8], out: &'a mut [u8]) -> Answer<'a> {
-        let Station { words, sums } = self;
-        // SAFETY: both arrays are ours and of the library's lengths; the slices are lent whole, and
+        let Station { words, sums, spread } = self;
+        // SAFETY: the arrays are ours and of the library's lengths; the slices are lent whole, and
         // a `&mut` overlaps nothing else.
         let answered = unsafe {
             raw::lahzavar_frame(
                 words,
                 sums,
+                spread,
                 octets.as_ptr(),
                 octets.len(),
                 out.as_mut_ptr(),
@@ -139,10 +142,11 @@ impl Station {
     /// # Ok::<(), Refusal>(())
     /// ```
     pub fn tick<'a>(&mut self, reading: u32, out: &'a mut [u8]) -> Answer<'a> {
-        let Station { words, sums } = self;
+        let Station { words, sums, spread } = self;
         // SAFETY: as in `frame`.
-        let answered =
-            unsafe { raw::lahzavar_tick(words, sums, reading, out.as_mut_ptr(), out.len()) };
+        let answered = unsafe {
+            raw::lahzavar_tick(words, sums, spread, reading, out.as_mut_ptr(), out.len())
+        };
         answer(&answered, out)
     }
 
@@ -156,9 +160,9 @@ impl Station {
     ///
     /// [`Refusal::BadConfiguration`] after a wipe.
     pub fn pilot(&mut self, pilot: Pilot, reading: u32) -> Answer<'static> {
-        let Station { words, sums } = self;
-        // SAFETY: both arrays are ours and of the library's lengths.
-        let answered = unsafe { raw::lahzavar_pilot(words, sums, pilot.into(), reading) };
+        let Station { words, sums, spread } = self;
+        // SAFETY: the arrays are ours and of the library's lengths.
+        let answered = unsafe { raw::lahzavar_pilot(words, sums, spread, pilot.into(), reading) };
         answer(&answered, &[])
     }
 
@@ -169,8 +173,9 @@ impl Station {
     ///
     /// [`Refusal::BadConfiguration`] after a wipe.
     pub fn terminate(&mut self) -> Answer<'static> {
-        // SAFETY: both arrays are ours and of the library's lengths.
-        let answered = unsafe { raw::lahzavar_terminate(&mut self.words, &mut self.sums) };
+        let Station { words, sums, spread } = self;
+        // SAFETY: the arrays are ours and of the library's lengths.
+        let answered = unsafe { raw::lahzavar_terminate(words, sums, spread) };
         answer(&answered, &[])
     }
 
@@ -181,21 +186,53 @@ impl Station {
     /// [`Refusal::WrongState`] where no link is awaited, [`Refusal::BadConfiguration`] after a
     /// wipe.
     pub fn link_up(&mut self) -> Answer<'static> {
-        // SAFETY: both arrays are ours and of the library's lengths.
-        let answered = unsafe { raw::lahzavar_link_up(&mut self.words, &mut self.sums) };
+        let Station { words, sums, spread } = self;
+        // SAFETY: the arrays are ours and of the library's lengths.
+        let answered = unsafe { raw::lahzavar_link_up(words, sums, spread) };
         answer(&answered, &[])
     }
 
-    /// How many sounds of a car's run were heard.
+    /// The service query: how many sounds of a car's run were heard, and the least and the greatest
+    /// value that each carrier group had in the profiles counted since the car's last
+    /// `CM_SLAC_PARM.REQ`.
+    ///
+    /// A match takes the records away: ask when the report is sent.
     ///
     /// # Errors
     ///
-    /// [`Refusal::NoRecord`] where the car holds no record, [`Refusal::BadConfiguration`] after a
-    /// wipe.
-    pub fn sounds_heard(&self, car: [u8; 6]) -> Result<u32, Refusal> {
-        // SAFETY: both arrays are ours and of the library's lengths.
-        let heard = unsafe { raw::lahzavar_sounds_heard(&self.words, &self.sums, number(&car)) };
-        accepted(heard.refusal).map(|()| heard.sounds)
+    /// [`Refusal::NoRecord`] where the car holds no record or its record counts no profile yet,
+    /// [`Refusal::BadConfiguration`] after a wipe.
+    ///
+    /// ```
+    /// use lahzavar::{Refusal, Station};
+    ///
+    /// /// The groups in which the values of a car lie more than 20 dB apart.
+    /// fn noisy(station: &Station, car: [u8; 6]) -> Result<usize, Refusal> {
+    ///     let spread = station.query(car)?;
+    ///     let groups = spread.least.iter().zip(&spread.greatest);
+    ///     Ok(groups.filter(|(least, greatest)| greatest.abs_diff(**least) > 20).count())
+    /// }
+    /// # let configuration = lahzavar::Configuration {
+    /// #     address: [2, 0, 0, 0, 0, 0xAA],
+    /// #     modem: [2, 0, 0, 0, 0, 0xBB],
+    /// #     nid: [0; 7],
+    /// #     nmk: [0; 16],
+    /// #     validation_not_required: false,
+    /// # };
+    ///
+    /// let station = Station::new(&configuration)?;
+    /// assert_eq!(noisy(&station, [2, 0, 0, 0, 0, 1]), Err(Refusal::NoRecord)); // no car has asked
+    /// # Ok::<(), Refusal>(())
+    /// ```
+    pub fn query(&self, car: [u8; 6]) -> Result<Spread, Refusal> {
+        let Station { words, sums, spread } = self;
+        let (mut least, mut greatest) = ([0; GROUPS], [0; GROUPS]);
+        // SAFETY: the arrays are ours and of the library's lengths.
+        let heard = unsafe {
+            raw::lahzavar_query(words, sums, spread, number(&car), &mut least, &mut greatest)
+        };
+        accepted(heard.refusal)?;
+        Ok(Spread { sounds: heard.sounds, least, greatest })
     }
 
     /// The state; one that this wrapper does not know counts as Unmatched.
@@ -231,7 +268,7 @@ impl fmt::Debug for Station {
 
 #[cfg(test)]
 mod tests {
-    use super::{Configuration, Pilot, Station, SUMS, WORDS};
+    use super::{Configuration, Pilot, Station, SPREAD, SUMS, WORDS};
     use crate::octets::after_drop;
     use core::ptr::addr_of;
 
@@ -249,8 +286,12 @@ mod tests {
         assert!(station.words.contains(&0x4B4B_4B4B_4B4B_4B4B));
         // SAFETY: numbers stay numbers.
         let held = after_drop(station, |dropped| unsafe {
-            (addr_of!((*dropped).words).read_volatile(), addr_of!((*dropped).sums).read_volatile())
+            (
+                addr_of!((*dropped).words).read_volatile(),
+                addr_of!((*dropped).sums).read_volatile(),
+                addr_of!((*dropped).spread).read_volatile(),
+            )
         });
-        assert_eq!(held, ([0; WORDS], [0; SUMS]));
+        assert_eq!(held, ([0; WORDS], [0; SUMS], [0; SPREAD]));
     }
 }

@@ -4,8 +4,8 @@
 mod frames;
 
 use frames::{Address, Car};
-use lahzavar::{Answer, Configuration, Indication, Pilot, Refusal, State, Station};
-use lahzavar::{CONFIRMATION_OCTETS, LEAST_OUTPUT, RECORDS, REPORT_OCTETS};
+use lahzavar::{Answer, Configuration, Indication, Pilot, Refusal, Spread, State, Station};
+use lahzavar::{CONFIRMATION_OCTETS, GROUPS, LEAST_OUTPUT, RECORDS, REPORT_OCTETS};
 
 const STATION: Address = [2, 0, 0, 0, 0, 0xAA];
 const MODEM: Address = [2, 0, 0, 0, 0, 0xBB];
@@ -65,6 +65,11 @@ impl Bench {
         }
     }
 
+    /// The modem measures one sound of a car.
+    fn measured(&mut self, car: &Car, values: &[u8; GROUPS]) {
+        assert!(self.hear(&frames::profile_of(MODEM, STATION, car.address, values)).is_ok());
+    }
+
     /// A car has its report and has answered it.
     fn awaited(&mut self, car: &Car) {
         self.sounded(car, 10);
@@ -97,11 +102,13 @@ fn confirmed(frame: &[u8], car: &Car) -> (u8, u8) {
 fn a_whole_matching() {
     let (mut bench, car) = (Bench::plugged(), car(1));
     bench.sounded(&car, 9);
-    assert_eq!(bench.station.sounds_heard(car.address), Ok(9));
+    assert_eq!(bench.station.query(car.address), Ok(even(9, 10, 18)));
     assert!(nothing(bench.hear(&car.sound(9))));
     let report = bench.replies(&frames::profile(MODEM, STATION, car.address, 21));
     assert_eq!((report.len(), report[0].len()), (1, REPORT_OCTETS));
     assert_eq!((report[0][19 + 50], report[0][19 + 52]), (10, 14));
+    assert_eq!(frames::reported(report[0]), Some([14; GROUPS]));
+    assert_eq!(bench.station.query(car.address), Ok(even(10, 10, 21)));
     assert!(nothing(bench.hear(&car.rsp(STATION))));
     let confirmed = bench.replies(&car.match_req(STATION));
     assert_eq!(frames::message_type(confirmed[0]), frames::MATCH_CNF);
@@ -112,6 +119,65 @@ fn a_whole_matching() {
     assert_eq!(linked.indication, Some(Indication::LinkEstablished));
     assert_eq!(bench.station.state(), State::Matched);
     assert!(nothing(bench.station.terminate()));
+}
+
+/// What the query gives where every group has the same values.
+fn even(sounds: u32, least: u8, greatest: u8) -> Spread {
+    Spread { sounds, least: [least; GROUPS], greatest: [greatest; GROUPS] }
+}
+
+#[test]
+fn the_spread_follows_each_profile() {
+    let (mut bench, car) = (Bench::plugged(), car(1));
+    let query = |bench: &Bench| bench.station.query(car.address);
+    assert_eq!(query(&bench), Err(Refusal::NoRecord));
+    bench.sounded(&car, 0);
+    assert!(nothing(bench.hear(&car.sound(0))));
+    assert_eq!(query(&bench), Err(Refusal::NoRecord));
+    for (value, least, greatest) in [(30, 30, 30), (31, 30, 31), (255, 30, 255), (0, 0, 255)] {
+        bench.measured(&car, &[value; GROUPS]);
+        assert_eq!(query(&bench), Ok(even(1, least, greatest)));
+    }
+    assert_eq!(bench.replies(&car.parm_req()).len(), 1);
+    assert_eq!(query(&bench), Err(Refusal::NoRecord));
+    assert!(nothing(bench.hear(&car.start())));
+    bench.measured(&car, &[40; GROUPS]);
+    assert_eq!(query(&bench), Ok(even(0, 40, 40)));
+}
+
+#[test]
+fn the_spread_of_each_car_and_group() {
+    let (mut bench, first, second) = (Bench::plugged(), car(1), car(2));
+    bench.sounded(&first, 0);
+    bench.sounded(&second, 0);
+    let up: [u8; GROUPS] = std::array::from_fn(|group| u8::try_from(group).unwrap());
+    let down = up.map(|value| 57 - value);
+    bench.measured(&first, &up);
+    bench.measured(&second, &[99; GROUPS]);
+    assert_eq!(
+        bench.station.query(first.address),
+        Ok(Spread { sounds: 0, least: up, greatest: up })
+    );
+    bench.measured(&first, &down);
+    let spread = bench.station.query(first.address).unwrap();
+    for (group, (low, high)) in up.into_iter().zip(down).enumerate() {
+        assert_eq!((spread.least[group], spread.greatest[group]), (low.min(high), low.max(high)));
+    }
+    assert_eq!(bench.station.query(second.address), Ok(even(0, 99, 99)));
+    assert_eq!(bench.station.query(STATION), Err(Refusal::NoRecord));
+}
+
+#[test]
+fn the_spread_lasts_until_the_match() {
+    let (mut bench, ours, other) = (Bench::plugged(), car(1), car(2));
+    bench.awaited(&ours);
+    bench.sounded(&other, 2);
+    assert_eq!(bench.station.query(ours.address), Ok(even(10, 10, 19)));
+    assert_eq!(bench.station.query(other.address), Ok(even(2, 10, 11)));
+    assert_eq!(bench.replies(&ours.match_req(STATION)).len(), 1);
+    for car in [ours, other] {
+        assert_eq!(bench.station.query(car.address), Err(Refusal::NoRecord));
+    }
 }
 
 #[test]
@@ -216,7 +282,7 @@ fn refusals_change_nothing() {
     assert_eq!(bench.hear(&car(1).start()), Err(Refusal::NoRecord));
     assert_eq!(bench.hear(&car(1).rsp(MODEM)), Err(Refusal::NotForUs));
     assert_eq!(bench.station.link_up(), Err(Refusal::WrongState));
-    assert_eq!(bench.station.sounds_heard([2; 6]), Err(Refusal::NoRecord));
+    assert_eq!(bench.station.query([2; 6]), Err(Refusal::NoRecord));
     let short = &mut [0; LEAST_OUTPUT - 1];
     assert_eq!(bench.station.frame(&car(1).parm_req(), short), Err(Refusal::OutputTooShort));
     assert_eq!(bench.out, [0xEE; LEAST_OUTPUT]);
@@ -262,7 +328,7 @@ fn answers_16_to_everything(bench: &mut Bench) {
     assert_eq!(bench.station.pilot(Pilot::B, 10), Err(bad));
     assert_eq!(bench.station.terminate(), Err(bad));
     assert_eq!(bench.station.link_up(), Err(bad));
-    assert_eq!(bench.station.sounds_heard(car(1).address), Err(bad));
+    assert_eq!(bench.station.query(car(1).address), Err(bad));
     assert_eq!((bench.station.state(), bench.station.records_held()), (State::Unmatched, 0));
     assert_eq!(bench.out, [0xEE; LEAST_OUTPUT]);
 }

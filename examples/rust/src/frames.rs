@@ -46,7 +46,23 @@ fn frame(to: Address, from: Address, kind: u16, payload: &[&[u8]]) -> Vec<u8> {
 
 /// What the modem measured of one sound of a car, the same value in every group.
 pub fn profile(modem: Address, station: Address, car: Address, value: u8) -> Vec<u8> {
-    frame(station, modem, 0x6086, &[&car, &[GROUP_COUNT, 0], &[value; GROUPS]])
+    profile_of(modem, station, car, &[value; GROUPS])
+}
+
+/// The same with a value for each group.
+pub fn profile_of(
+    modem: Address,
+    station: Address,
+    car: Address,
+    values: &[u8; GROUPS],
+) -> Vec<u8> {
+    frame(station, modem, 0x6086, &[&car, &[GROUP_COUNT, 0], values])
+}
+
+/// The group values of a report, `CM_ATTEN_CHAR.IND`; none where the frame is another message.
+pub fn reported(frame: &[u8]) -> Option<[u8; GROUPS]> {
+    let payload = frame.get(HEAD..).filter(|_| message_type(frame) == ATTEN_CHAR_IND)?;
+    payload.get(52..52 + GROUPS)?.try_into().ok()
 }
 
 impl Car {

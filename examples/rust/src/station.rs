@@ -6,7 +6,8 @@
 mod frames;
 
 use frames::{Address, Car};
-use lahzavar::{Answer, Configuration, Indication, Pilot, Refusal, State, Station, LEAST_OUTPUT};
+use lahzavar::{Answer, Configuration, Done, Indication, Pilot, Refusal, State, Station};
+use lahzavar::{LEAST_OUTPUT, REPORT_OCTETS};
 use std::collections::BTreeMap;
 use std::process::ExitCode;
 use std::sync::mpsc::{sync_channel, Receiver, SyncSender};
@@ -70,14 +71,33 @@ impl Outcome {
     }
 }
 
+/// For field service: the lowest and the highest value of each car that gets its report now; a match
+/// takes them away.
+fn log_spreads(station: &Station, answer: Answer) {
+    let frames = answer.iter().flat_map(Done::frames);
+    for report in frames.filter(|frame| frame.len() == REPORT_OCTETS) {
+        let Some(car) = report.first_chunk() else { continue };
+        if let Ok(spread) = station.query(*car) {
+            let low = spread.least.into_iter().min().unwrap_or_default();
+            let high = spread.greatest.into_iter().max().unwrap_or_default();
+            eprintln!("car {car:02X?}: {} sounds heard, {low} to {high} dB", spread.sounds);
+        }
+    }
+}
+
 /// The driver loop: ends with the first indication, or with the queue.
 fn drive(station: &mut Station, events: Receiver<Event>, outcome: &mut Outcome) {
     let (mut out, mut pilot_now) = ([0; LEAST_OUTPUT], Pilot::A);
     for event in events {
         match event {
-            Event::Frame(octets) => outcome.obey(station.frame(&octets, &mut out)),
+            Event::Frame(octets) => {
+                let answer = station.frame(&octets, &mut out);
+                log_spreads(station, answer);
+                outcome.obey(answer);
+            }
             Event::Clock(reading) => {
                 let answer = station.tick(reading, &mut out);
+                log_spreads(station, answer);
                 outcome.obey(answer);
                 // After a gap of more than 60 seconds in a matching it is not known what happened
                 // meanwhile, so that it ends and begins anew; else the gap does no harm, since the
