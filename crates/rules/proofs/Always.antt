@@ -1,6 +1,6 @@
 -- What the four changes of the record list keep, every call keeps.
 use Prim.Native.Nat.{ℕ, zero, suc, _-_}
-use mathlib.Core.Path.{_≡_}
+use mathlib.Core.Path.{_≡_, refl}
 use mathlib.Core.Bool.{Bool, true, false, _&&_}
 use mathlib.Core.List.{List, [], _∷_, map}
 use lib.Dec.{leb}
@@ -119,6 +119,14 @@ module _ (P : List Record → Type 0) (F : Request → Type 0)
   pub always : (o : Shared) (i : Inner) (x : Call) → Meets F (o .config) x → P (i .records) → P (next i (rule o i x) .records)
   always o i x f h = of-next i (rule o i x) h (of-rule o i x f h)
 
+-- only a frame has a request
+pub meets-frame : (F : Request → Type 0) (o : Configuration) (x : Call) → ((s : List ℕ) (room : ℕ) → x ≡ frame s room → OnYes (λ (y : Received). F (y .request)) (admitted o room (received s))) → Meets F o x
+meets-frame F o (frame s room) h = h s room refl
+meets-frame F o (tick t room) h = tt
+meets-frame F o (pilot p t) h = tt
+meets-frame F o terminate h = tt
+meets-frame F o linkUp h = tt
+
 -- where every request will do
 module _ (F : Request → Type 0) (f : (m : Request) → F m) where
   every-yes : (w : Checked Received) → OnYes (λ (y : Received). F (y .request)) w
@@ -126,11 +134,7 @@ module _ (F : Request → Type 0) (f : (m : Request) → F m) where
   every-yes (yes y) = f (y .request)
 
   pub meets-every : (o : Configuration) (x : Call) → Meets F o x
-  meets-every o (frame s room) = every-yes (admitted o room (received s))
-  meets-every o (tick t room) = tt
-  meets-every o (pilot p t) = tt
-  meets-every o terminate = tt
-  meets-every o linkUp = tt
+  meets-every o x = meets-frame F o x (λ s room e. every-yes (admitted o room (received s)))
 
 abbrev pub AnyRequest : Request → Type 0
 AnyRequest m = Unit {0}

@@ -30,21 +30,19 @@ use Rattle.ends.specs.Lists.{All}
 use Rattle.rules.specs.Calls.{Call, frame, tick, pilot, terminate, linkUp}
 use Rattle.rules.specs.Stations.{Shared, shared, inner}
 use Rattle.rules.specs.Records.{isHeld, holds, mine, freePlaces, owned, freed, noSums, fresh, inPhase, withHeard, merged, added, counted}
-use Rattle.rules.specs.Sounds.{isIn}
-use Rattle.rules.specs.Replies.{Reply}
 use Rattle.rules.specs.Received.{RecordMessage, parmReq, start, sound, profile, rsp, validateFirst, validateSecond, forRecord}
 use Rattle.rules.specs.Validation.{firstResult, oneMore, counts, toggledPhase, toggledRecord}
-use Rattle.rules.specs.Frames.{Kept, Change, putBack, startRule, soundRule, profileRule, rspRule, answered, firstRule, secondRule, atOwn, atRun, requested, parmRule, changeRule, put}
+use Rattle.rules.specs.Frames.{Change, startRule, soundRule, profileRule, rspRule, answered, firstRule, secondRule, changeRule}
 use Rattle.rules.specs.Ticks.{Ticked, nowFree, stillHeld, windowEnds, tickElapsed, tickPhase, recordOf, tickRecord}
 use Rattle.rules.specs.Rules.{freeRecord, configured, takesReading, takesPilot, sharedStep, step}
 use Rattle.rules.specs.Invariant.{Within, Reportable, InPhase, GoodRecord, GoodConfiguration, Invariant, OctetCall}
-use Rattle.ends.proofs.Logic.{split, clash, OnYes, on-check}
+use Rattle.ends.proofs.Logic.{split, clash, OnYes, on-cond}
 use Rattle.ends.proofs.ListLaws.{all-map, all-only, all-replicate}
 use Rattle.rules.proofs.RecordLaws.{freed-free}
-use Rattle.rules.proofs.RuleLaws.{on-own, on-run, on-back}
+use Rattle.rules.proofs.PhaseLaws.{OfKept, OfChange, on-start, on-sound, on-profile, on-rsp, on-first, on-second, on-parm, back-own, back-run}
 use Rattle.rules.proofs.ReceivedLaws.{OctetRequest, admitted-octets}
-use Rattle.rules.proofs.Reached.{all-put}
-use Rattle.rules.proofs.Always.{Meets, always}
+use Rattle.rules.proofs.Reached.{all-change}
+use Rattle.rules.proofs.Always.{Meets, always, meets-frame}
 use Rattle.rules.proofs.SoundLaws.{marked-below}
 
 -- ---- one record
@@ -84,12 +82,6 @@ sums-added (x ∷ xs) (v ∷ vs) n (suc i) a b = sums-added xs vs n i (λ j. a (
 
 -- ---- a frame at its car's record
 
-abbrev FitKept : Kept → Type 0
-FitKept k = Fit (k .kept)
-
-abbrev FitChange : Change → Type 0
-FitChange x = Fit (x .kept)
-
 module _ (r : Record) (f : Fit r) where
   in-phase : (p : Phase) → r .phase ≡ p → InPhase p (r .profiles)
   in-phase p e = subst (λ (q : Phase). InPhase q (r .profiles)) e (f .phase)
@@ -98,107 +90,56 @@ module _ (r : Record) (f : Fit r) where
   unfolding inPhase
   fit-phase p h = record { sums = f .sums; phase = h; heard = f .heard }
 
-  start-fit : (p : Phase) → r .phase ≡ p → OnYes FitKept (startRule r p)
-  unfolding startRule
-  start-fit (Asked t) e = let z = in-phase (Asked t) e .1 in fit-phase (Sounding _) ((omega arith, omega arith), omega arith)
-  start-fit (Sounding t) e = f
-  start-fit (Reported t n) e = tt
-  start-fit (Awaiting t) e = tt
-  start-fit (Ready t) e = tt
-  start-fit (Counting t n b) e = tt
-  start-fit (Success t) e = tt
+  start-fit : OnYes (OfKept Fit) (startRule r (r .phase))
+  start-fit = on-start Fit r (r .phase)
+      (λ t e. let z = in-phase (Asked t) e .1 in fit-phase (Sounding _) ((omega arith, omega arith), omega arith))
+      (λ t e. f)
 
-  sound-fit : (k : ℕ) (p : Phase) → OnYes FitKept (soundRule k r p)
-  unfolding soundRule withHeard
-  sound-fit k (Asked t) = tt
-  sound-fit k (Sounding t) = on-check FitKept (ltb k soundCount) 13 _ (λ a. on-check FitKept (not (isIn k (r .heard))) 13 _
-      (λ b. record { sums = f .sums; phase = f .phase; heard = marked-below soundCount k (r .heard) (ltb-true k soundCount a) (f .heard) (not-true _ b) }))
-  sound-fit k (Reported t n) = tt
-  sound-fit k (Awaiting t) = tt
-  sound-fit k (Ready t) = tt
-  sound-fit k (Counting t n b) = tt
-  sound-fit k (Success t) = tt
+  sound-fit : (k : ℕ) → OnYes (OfKept Fit) (soundRule k r (r .phase))
+  unfolding withHeard
+  sound-fit k = on-sound Fit r k (r .phase) (λ a b. record { sums = f .sums; phase = f .phase; heard = marked-below soundCount k (r .heard) a (f .heard) b })
 
-  profile-fit : (vs : List ℕ) (p : Phase) → Octets vs → r .phase ≡ p → OnYes FitKept (profileRule vs r p)
-  unfolding profileRule counted inPhase
-  profile-fit vs (Asked t) o e = tt
-  profile-fit vs (Sounding t) o e =
+  profile-fit : (vs : List ℕ) → Octets vs → OnYes (OfKept Fit) (profileRule vs r (r .phase))
+  unfolding counted inPhase
+  profile-fit vs o = on-profile Fit r vs (r .phase)
+      (λ t e a.
       let h = in-phase (Sounding t) e in
-      split (eqb (r .profiles + 1) soundCount)
-      (λ a. rw a (record { sums = λ i. sums-added (r .sums) vs (r .profiles) i (f .sums) o; phase = ((omega arith, omega arith), (omega arith, (omega arith, omega arith))); heard = f .heard }))
-      (λ a. rw a (record {
+      record { sums = λ i. sums-added (r .sums) vs (r .profiles) i (f .sums) o; phase = ((omega arith, omega arith), (omega arith, (omega arith, omega arith))); heard = f .heard })
+      (λ t e a.
+      let h = in-phase (Sounding t) e in
+      record {
         sums = λ i. sums-added (r .sums) vs (r .profiles) i (f .sums) o;
         phase = subst (λ (q : Phase). InPhase q (r .profiles + 1)) (sym e) (h .0, omega (arith, eqb-false (r .profiles + 1) soundCount a));
         heard = f .heard;
-      }))
-  profile-fit vs (Reported t n) o e = tt
-  profile-fit vs (Awaiting t) o e = tt
-  profile-fit vs (Ready t) o e = tt
-  profile-fit vs (Counting t n b) o e = tt
-  profile-fit vs (Success t) o e = tt
+      })
 
-  rsp-fit : (p : Phase) → r .phase ≡ p → OnYes FitKept (rspRule r p)
-  unfolding rspRule
-  rsp-fit (Asked t) e = tt
-  rsp-fit (Sounding t) e = tt
-  rsp-fit (Reported t n) e = fit-phase (Awaiting _) ((omega arith, omega arith), in-phase (Reported t n) e .1 .1)
-  rsp-fit (Awaiting t) e = tt
-  rsp-fit (Ready t) e = tt
-  rsp-fit (Counting t n b) e = tt
-  rsp-fit (Success t) e = tt
+  rsp-fit : OnYes (OfKept Fit) (rspRule r (r .phase))
+  rsp-fit = on-rsp Fit r (r .phase) (λ t n e. fit-phase (Awaiting _) ((omega arith, omega arith), in-phase (Reported t n) e .1 .1))
 
-  first-fit : (result : ℕ) (p : Phase) → r .phase ≡ p → OnYes FitKept (firstRule result r p)
-  unfolding firstRule answered
-  first-fit result (Asked t) e = tt
-  first-fit result (Sounding t) e = tt
-  first-fit result (Reported t n) e = tt
-  first-fit result (Awaiting t) e = split (eqb result readyResult)
-      (λ a. rw a (fit-phase (Ready readyTime) ((omega arith, omega arith), in-phase (Awaiting t) e .1)))
-      (λ a. rw a f)
-  first-fit result (Ready t) e = tt
-  first-fit result (Counting t n b) e = tt
-  first-fit result (Success t) e = tt
+  first-fit : (result : ℕ) → OnYes (OfKept Fit) (firstRule result r (r .phase))
+  unfolding answered
+  first-fit result = on-first Fit r result (r .phase)
+      (λ t e. on-cond Fit (eqb result readyResult) _ r (λ a. fit-phase (Ready readyTime) ((omega arith, omega arith), in-phase (Awaiting t) e .1)) (λ a. f))
 
-  second-fit : (timer : ℕ) (p : Phase) → timer < 256 → r .phase ≡ p → OnYes FitKept (secondRule timer r p)
-  unfolding secondRule
-  second-fit timer (Asked t) o e = tt
-  second-fit timer (Sounding t) o e = tt
-  second-fit timer (Reported t n) o e = tt
-  second-fit timer (Awaiting t) o e = tt
-  second-fit timer (Ready t) o e = fit-phase (Counting (windowStep * (timer + 1)) 0 false) ((omega arith, omega arith), (omega arith, in-phase (Ready t) e .1))
-  second-fit timer (Counting t n b) o e = tt
-  second-fit timer (Success t) o e = tt
-
-parm-fit : (c : CarAddress) (run : RunId) (a free : ℕ) (own : List Record) → OnYes FitChange (parmRule c run a free own)
-unfolding parmRule requested
-parm-fit c run a free (r ∷ own) = fit-fresh c run
-parm-fit c run a free [] = on-check FitChange (ltb 0 a) 9 _ (λ g. on-check FitChange (ltb 0 free) 10 _ (λ h. fit-fresh c run))
+  second-fit : (timer : ℕ) → timer < 256 → OnYes (OfKept Fit) (secondRule timer r (r .phase))
+  second-fit timer o = on-second Fit r timer (r .phase) (λ t e. fit-phase (Counting (windowStep * (timer + 1)) 0 false) ((omega arith, omega arith), (omega arith, in-phase (Ready t) e .1)))
 
 module _ (own : List Record) (g : All GoodRecord own) where
-  head-fit : (r : Record) (rs : List Record) → own ≡ r ∷ rs → Fit r
-  head-fit r rs e = fit r (subst (All GoodRecord) e g .0)
-
-  back-own : (f : Record → Checked Kept) → ((r : Record) → Fit r → OnYes FitKept (f r)) → OnYes FitChange (putBack (atOwn own f))
-  back-own f h = on-back (λ (r : Record) (ts : List Reply). Fit r) (atOwn own f) (on-own FitKept own f (λ r rs e. h r (head-fit r rs e)))
-
-  back-run : (run : RunId) (f : Record → Checked Kept) → ((r : Record) → Fit r → OnYes FitKept (f r)) → OnYes FitChange (putBack (atRun run own f))
-  back-run run f h = on-back (λ (r : Record) (ts : List Reply). Fit r) (atRun run own f) (on-run FitKept run own f (λ r rs e. h r (head-fit r rs e)))
-
-  change-fit : (c : CarAddress) (m : RecordMessage) → OctetRequest (forRecord m) → (a free result : ℕ) → OnYes FitChange (changeRule c m a free result own)
+  change-fit : (c : CarAddress) (m : RecordMessage) → OctetRequest (forRecord m) → (a free result : ℕ) → OnYes (OfChange Fit) (changeRule c m a free result own)
   unfolding changeRule
-  change-fit c (parmReq run) o a free result = parm-fit c run a free own
-  change-fit c (start run) o a free result = back-run run (λ (r : Record). startRule r (r .phase)) (λ r f. start-fit r f (r .phase) refl)
-  change-fit c (sound run k) o a free result = back-run run (λ (r : Record). soundRule k r (r .phase)) (λ r f. sound-fit r f k (r .phase))
-  change-fit c (profile vs) o a free result = back-own (λ (r : Record). profileRule vs r (r .phase)) (λ r f. profile-fit r f vs (r .phase) o refl)
-  change-fit c (rsp run) o a free result = back-run run (λ (r : Record). rspRule r (r .phase)) (λ r f. rsp-fit r f (r .phase) refl)
-  change-fit c validateFirst o a free result = back-own (λ (r : Record). firstRule result r (r .phase)) (λ r f. first-fit r f result (r .phase) refl)
-  change-fit c (validateSecond timer) o a free result = back-own (λ (r : Record). secondRule timer r (r .phase)) (λ r f. second-fit r f timer (r .phase) o refl)
+  change-fit c (parmReq run) o a free result = on-parm Fit c run a free result own (fit-fresh c run)
+  change-fit c (start run) o a free result = back-run GoodRecord Fit own g run (λ (r : Record). startRule r (r .phase)) (λ r q. start-fit r (fit r q))
+  change-fit c (sound run k) o a free result = back-run GoodRecord Fit own g run (λ (r : Record). soundRule k r (r .phase)) (λ r q. sound-fit r (fit r q) k)
+  change-fit c (profile vs) o a free result = back-own GoodRecord Fit own g (λ (r : Record). profileRule vs r (r .phase)) (λ r q. profile-fit r (fit r q) vs o)
+  change-fit c (rsp run) o a free result = back-run GoodRecord Fit own g run (λ (r : Record). rspRule r (r .phase)) (λ r q. rsp-fit r (fit r q))
+  change-fit c validateFirst o a free result = back-own GoodRecord Fit own g (λ (r : Record). firstRule result r (r .phase)) (λ r q. first-fit r (fit r q) result)
+  change-fit c (validateSecond timer) o a free result = back-own GoodRecord Fit own g (λ (r : Record). secondRule timer r (r .phase)) (λ r q. second-fit r (fit r q) timer o)
 
 -- as its car's own, the record of a change is a good one
 abbrev GoodChange : CarAddress → Change → Type 0
 GoodChange c x = GoodRecord (owned c (x .kept))
 
-own-good : (c : CarAddress) → isUnicast (c .0) ≡ true → (w : Checked Change) → OnYes FitChange w → OnYes (GoodChange c) w
+own-good : (c : CarAddress) → isUnicast (c .0) ≡ true → (w : Checked Change) → OnYes (OfChange Fit) w → OnYes (GoodChange c) w
 own-good c u (no n) h = tt
 own-good c u (yes x) h = good-owned c (x .kept) u h
 
@@ -297,20 +238,10 @@ turn-good w r g = split (isHeld r)
     (λ h. rw h (good-phase (toggledPhase w (r .phase)) r g (g .car h) (turn-fit w (r .phase) (r .profiles) (g .phase))))
     (λ h. rw h g)
 
--- ---- the records
-
-put-good : (c : CarAddress) (rs : List Record) → All GoodRecord rs → (w : Checked Change) → OnYes (GoodChange c) w → OnYes (λ (x : Change). All GoodRecord (put c (x .place) (x .kept) rs)) w
-put-good c rs g (no n) h = tt
-put-good c rs g (yes x) h = all-put GoodRecord c (x .place) (x .kept) h rs g
-
 -- ---- the station
 
 octet-meets : (o : Configuration) (x : Call) → OctetCall x → Meets OctetRequest o x
-octet-meets o (frame s room) h = admitted-octets o room s h
-octet-meets o (tick t room) h = tt
-octet-meets o (pilot p t) h = tt
-octet-meets o terminate h = tt
-octet-meets o linkUp h = tt
+octet-meets o x h = meets-frame OctetRequest o x (λ s room e. admitted-octets o room s (subst OctetCall e h))
 
 -- no call changes the configuration
 reading-config : (w : Checked ℕ) (t : ℕ) (o : Shared) → takesReading w t o .config ≡ o .config
@@ -335,7 +266,7 @@ unfolding step
 step-keeps s x h i = record {
   config = subst GoodConfiguration (sym (config-same (shared s) x)) (i .config);
   records = always (All GoodRecord) OctetRequest
-      (λ c u m o a x rs g. put-good c rs g (changeRule c m a (freePlaces rs) (firstResult x rs) (mine c rs)) (change-good c u (mine c rs) (all-only GoodRecord (holds c) rs g) m o a (freePlaces rs) (firstResult x rs)))
+      (λ c u m o a x rs g. all-change GoodRecord c rs g (changeRule c m a (freePlaces rs) (firstResult x rs) (mine c rs)) (change-good c u (mine c rs) (all-only GoodRecord (holds c) rs g) m o a (freePlaces rs) (firstResult x rs)))
       (λ b e rs g. all-map GoodRecord (tickRecord b e) (tick-good b e) rs g)
       (λ w rs g. all-map GoodRecord (toggledRecord w) (turn-good w) rs g)
       (λ rs g. all-map GoodRecord freed (λ r q. good-freed r (fit r q)) rs g)

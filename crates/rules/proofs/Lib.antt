@@ -2,6 +2,7 @@ pub mod CasesHold
 pub mod ExceptionsHold
 pub mod RecordLaws
 pub mod RuleLaws
+pub mod PhaseLaws
 pub mod ReadingLaws
 pub mod ReceivedLaws
 pub mod ReplyLaws
@@ -23,6 +24,7 @@ pub mod SoundLaws
 pub mod InvariantKept
 pub mod AnswerLaws
 pub mod Refusals
+pub mod SpreadLaws
 pub mod ReachableHolds
 pub mod IndexLaws
 pub mod ConfigureLaws

@@ -1,10 +1,10 @@
 -- How many records are ready or counting: only an accepted validate request adds one, and none where there is one.
 use Prim.Native.Nat.{ℕ, _+_, _-_, _<_, _≤_}
 use mathlib.Core.Path.{_≡_, refl, sym, ap, subst}
-use mathlib.Core.Bool.{Bool, true, false, not, cond}
+use mathlib.Core.Bool.{Bool, true, false, cond}
 use mathlib.Core.List.{List, [], _∷_, map}
 use native.Mathlib.Omega.{arith}
-use lib.Dec.{eqb, leb, ltb}
+use lib.Dec.{eqb, leb}
 use borrow.Author.Tests.{eqb-true}
 use Rattle.messages.specs.declared.CarAddress.{CarAddress}
 use Rattle.messages.specs.declared.RunId.{RunId}
@@ -14,18 +14,16 @@ use Rattle.rules.specs.declared.Phase.the-variants.{Asked, Sounding, Rep
 use Rattle.rules.specs.declared.Record.{Record}
 use Rattle.rules.specs.declared.Turn.{Turn}
 use Rattle.rules.specs.declared.Turn.the-variants.{Begins, Ends, Stays, Breaks}
-use Rattle.ends.specs.Constants.{soundCount}
 use Rattle.rules.specs.Constants.{readyResult}
 use Rattle.ends.specs.Lists.{only}
 use Rattle.rules.specs.Calls.{Call}
 use Rattle.ends.specs.Outcomes.{next}
 use Rattle.rules.specs.Stations.{Shared, Inner}
 use Rattle.rules.specs.Records.{sameRun, isHeld, holds, mine, freePlaces, owned, freed, update, insert, fresh, inPhase, withHeard, counted}
-use Rattle.rules.specs.Sounds.{isIn}
 use Rattle.rules.specs.Replies.{Reply}
 use Rattle.rules.specs.Received.{RecordMessage, parmReq, start, sound, profile, rsp, validateFirst, validateSecond, Request, forRecord}
 use Rattle.rules.specs.Validation.{validates, isValidating, anyValidates, firstResult, counts, toggledPhase, toggledRecord}
-use Rattle.rules.specs.Frames.{Kept, Place, ownPlace, freePlace, Change, putBack, startRule, soundRule, profileRule, rspRule, answered, firstRule, secondRule, atOwn, atRun, requested, parmRule, changeRule, put}
+use Rattle.rules.specs.Frames.{Kept, Place, ownPlace, freePlace, Change, putBack, startRule, soundRule, profileRule, rspRule, answered, firstRule, secondRule, atOwn, atRun, changeRule, put}
 use Rattle.rules.specs.Ticks.{Ticked, nowFree, stillHeld, windowEnds, tickPhase, recordOf, tickRecord}
 use Rattle.rules.specs.Rules.{rule}
 use Rattle.ends.proofs.Logic.{split, OnYes, on-check, on-cond}
@@ -33,6 +31,7 @@ use Rattle.ends.proofs.ListLaws.{only-none, only-yes, only-no}
 use Rattle.rules.proofs.RecordLaws as places
 use Rattle.rules.proofs.RecordLaws.{holds-held, owned-holds, freed-free, none-freed}
 use Rattle.rules.proofs.RuleLaws.{on-own, on-back, isValidate, change-ready}
+use Rattle.rules.proofs.PhaseLaws.{OfKept, OfChange, on-start, on-sound, on-profile, on-rsp, on-first, on-second, on-parm}
 use Rattle.rules.proofs.ReceivedLaws.{validatesIn}
 use Rattle.rules.proofs.ValidationLaws.{held-validates, free-validates, busy, busy-none, free-busy}
 use Rattle.rules.proofs.Always.{always, meets-every, Meets}
@@ -92,95 +91,60 @@ busy-put c k freePlace rs w = rw (w .0) (omega (arith, busy-insert (owned c k) r
 
 module _ (room : ℕ) (r : Record) where
   -- the record is ready or counting only if it was, or if there is room for one more
-  abbrev Light : Kept → Type 0
-  Light k = load (k .kept .phase) ≤ load (r .phase) + room
+  abbrev Light : Record → Type 0
+  Light n = load (n .phase) ≤ load (r .phase) + room
 
-  start-light : (p : Phase) → OnYes Light (startRule r p)
-  unfolding startRule inPhase validates
-  start-light (Asked t) = omega arith
-  start-light (Sounding t) = omega arith
-  start-light (Reported t n) = tt
-  start-light (Awaiting t) = tt
-  start-light (Ready t) = tt
-  start-light (Counting t n b) = tt
-  start-light (Success t) = tt
+  start-light : OnYes (OfKept Light) (startRule r (r .phase))
+  unfolding inPhase validates
+  start-light = on-start Light r (r .phase) (λ t e. omega arith) (λ t e. omega arith)
 
-  sound-light : (k : ℕ) (p : Phase) → OnYes Light (soundRule k r p)
-  unfolding soundRule withHeard
-  sound-light k (Asked t) = tt
-  sound-light k (Sounding t) = on-check Light (ltb k soundCount) 13 _ (λ a. on-check Light (not (isIn k (r .heard))) 13 _ (λ b. omega arith))
-  sound-light k (Reported t n) = tt
-  sound-light k (Awaiting t) = tt
-  sound-light k (Ready t) = tt
-  sound-light k (Counting t n b) = tt
-  sound-light k (Success t) = tt
+  sound-light : (k : ℕ) → OnYes (OfKept Light) (soundRule k r (r .phase))
+  unfolding withHeard
+  sound-light k = on-sound Light r k (r .phase) (λ a b. omega arith)
 
-  profile-light : (vs : List ℕ) (p : Phase) → OnYes Light (profileRule vs r p)
-  unfolding profileRule counted inPhase validates
-  profile-light vs (Asked t) = tt
-  profile-light vs (Sounding t) = on-cond (OnYes Light) (eqb (r .profiles + 1) soundCount) _ _ (λ a. omega arith) (λ a. omega arith)
-  profile-light vs (Reported t n) = tt
-  profile-light vs (Awaiting t) = tt
-  profile-light vs (Ready t) = tt
-  profile-light vs (Counting t n b) = tt
-  profile-light vs (Success t) = tt
+  profile-light : (vs : List ℕ) → OnYes (OfKept Light) (profileRule vs r (r .phase))
+  unfolding counted inPhase validates
+  profile-light vs = on-profile Light r vs (r .phase) (λ t e a. omega arith) (λ t e a. omega arith)
 
-  rsp-light : (p : Phase) → OnYes Light (rspRule r p)
-  unfolding rspRule inPhase validates
-  rsp-light (Asked t) = tt
-  rsp-light (Sounding t) = tt
-  rsp-light (Reported t n) = omega arith
-  rsp-light (Awaiting t) = tt
-  rsp-light (Ready t) = tt
-  rsp-light (Counting t n b) = tt
-  rsp-light (Success t) = tt
+  rsp-light : OnYes (OfKept Light) (rspRule r (r .phase))
+  unfolding inPhase validates
+  rsp-light = on-rsp Light r (r .phase) (λ t n e. omega arith)
 
-  first-light : (result : ℕ) → (result ≡ readyResult → 0 < room) → (p : Phase) → OnYes Light (firstRule result r p)
-  unfolding firstRule answered inPhase validates
-  first-light result h (Asked t) = tt
-  first-light result h (Sounding t) = tt
-  first-light result h (Reported t n) = tt
-  first-light result h (Awaiting t) = split (eqb result readyResult) (λ a. rw a (omega (arith, h (eqb-true result readyResult a)))) (λ a. rw a (omega arith))
-  first-light result h (Ready t) = tt
-  first-light result h (Counting t n b) = tt
-  first-light result h (Success t) = tt
+  first-light : (result : ℕ) → (result ≡ readyResult → 0 < room) → OnYes (OfKept Light) (firstRule result r (r .phase))
+  unfolding answered inPhase validates
+  first-light result h = on-first Light r result (r .phase) (λ t e. on-cond Light (eqb result readyResult) _ r (λ a. omega (arith, h (eqb-true result readyResult a))) (λ a. omega arith))
 
-  second-light : (timer : ℕ) (p : Phase) → r .phase ≡ p → OnYes Light (secondRule timer r p)
-  unfolding secondRule inPhase validates
-  second-light timer (Asked t) e = tt
-  second-light timer (Sounding t) e = tt
-  second-light timer (Reported t n) e = tt
-  second-light timer (Awaiting t) e = tt
-  second-light timer (Ready t) e = let q : load (r .phase) ≡ 1 = ap load e in omega arith
-  second-light timer (Counting t n b) e = tt
-  second-light timer (Success t) e = tt
+  second-light : (timer : ℕ) → OnYes (OfKept Light) (secondRule timer r (r .phase))
+  unfolding inPhase validates
+  second-light timer = on-second Light r timer (r .phase) (λ t e. let q : load (r .phase) ≡ 1 = ap load e in omega arith)
 
 -- and at its car's own records
 module _ (room : ℕ) (own : List Record) where
-  abbrev LightChange : Change → Type 0
-  LightChange x = load (x .kept .phase) ≤ loadOf own + room
+  abbrev LightOwn : Record → Type 0
+  LightOwn k = load (k .phase) ≤ loadOf own + room
 
-  light-own : (f : Record → Checked Kept) → ((r : Record) → OnYes (Light room r) (f r)) → OnYes LightChange (putBack (atOwn own f))
-  light-own f h = on-back (λ (k : Record) (ts : List Reply). load (k .phase) ≤ loadOf own + room) (atOwn own f)
-      (on-own (λ (k : Kept). load (k .kept .phase) ≤ loadOf own + room) own f (λ r rs e. subst (λ (l : List Record). OnYes (λ (k : Kept). load (k .kept .phase) ≤ loadOf l + room) (f r)) (sym e) (h r)))
+  light-first : (r : Record) (rs : List Record) (w : Checked Kept) → own ≡ r ∷ rs → OnYes (OfKept (Light room r)) w → OnYes (OfKept LightOwn) w
+  light-first r rs w e h = subst (λ (l : List Record). OnYes (λ (k : Kept). load (k .kept .phase) ≤ loadOf l + room) w) (sym e) h
 
-  light-run : (run : RunId) (f : Record → Checked Kept) → ((r : Record) → OnYes (Light room r) (f r)) → OnYes LightChange (putBack (atRun run own f))
-  light-run run f h = light-own (λ (r : Record). check (sameRun run (r .run)) 11 (f r)) (λ r. on-check (Light room r) (sameRun run (r .run)) 11 (f r) (λ s. h r))
+  light-own : (f : Record → Checked Kept) → ((r : Record) → OnYes (OfKept (Light room r)) (f r)) → OnYes (OfChange LightOwn) (putBack (atOwn own f))
+  light-own f h = on-back (λ (k : Record) (ts : List Reply). LightOwn k) (atOwn own f) (on-own (OfKept LightOwn) own f (λ r rs e. light-first r rs (f r) e (h r)))
 
-  light-parm : (c : CarAddress) (run : RunId) (a free : ℕ) (l : List Record) → OnYes LightChange (parmRule c run a free l)
-  unfolding parmRule requested fresh validates
-  light-parm c run a free (r ∷ l) = omega arith
-  light-parm c run a free [] = on-check LightChange (ltb 0 a) 9 _ (λ g. on-check LightChange (ltb 0 free) 10 _ (λ h. omega arith))
+  light-run : (run : RunId) (f : Record → Checked Kept) → ((r : Record) → OnYes (OfKept (Light room r)) (f r)) → OnYes (OfChange LightOwn) (putBack (atRun run own f))
+  light-run run f h = light-own (λ (r : Record). check (sameRun run (r .run)) 11 (f r)) (λ r. on-check (OfKept (Light room r)) (sameRun run (r .run)) 11 (f r) (λ s. h r))
 
-  light-change : (c : CarAddress) (m : RecordMessage) (a free result : ℕ) → (isValidate m ≡ true → result ≡ readyResult → 0 < room) → OnYes LightChange (changeRule c m a free result own)
+  light-fresh : (c : CarAddress) (run : RunId) → LightOwn (fresh c run)
+  unfolding fresh validates
+  light-fresh c run = omega arith
+
+  light-change : (c : CarAddress) (m : RecordMessage) (a free result : ℕ) → (isValidate m ≡ true → result ≡ readyResult → 0 < room) → OnYes (OfChange LightOwn) (changeRule c m a free result own)
   unfolding changeRule
-  light-change c (parmReq run) a free result h = light-parm c run a free own
-  light-change c (start run) a free result h = light-run run (λ (r : Record). startRule r (r .phase)) (λ r. start-light room r (r .phase))
-  light-change c (sound run k) a free result h = light-run run (λ (r : Record). soundRule k r (r .phase)) (λ r. sound-light room r k (r .phase))
-  light-change c (profile vs) a free result h = light-own (λ (r : Record). profileRule vs r (r .phase)) (λ r. profile-light room r vs (r .phase))
-  light-change c (rsp run) a free result h = light-run run (λ (r : Record). rspRule r (r .phase)) (λ r. rsp-light room r (r .phase))
-  light-change c validateFirst a free result h = light-own (λ (r : Record). firstRule result r (r .phase)) (λ r. first-light room r result (h refl) (r .phase))
-  light-change c (validateSecond timer) a free result h = light-own (λ (r : Record). secondRule timer r (r .phase)) (λ r. second-light room r timer (r .phase) refl)
+  light-change c (parmReq run) a free result h = on-parm LightOwn c run a free result own (light-fresh c run)
+  light-change c (start run) a free result h = light-run run (λ (r : Record). startRule r (r .phase)) (start-light room)
+  light-change c (sound run k) a free result h = light-run run (λ (r : Record). soundRule k r (r .phase)) (λ r. sound-light room r k)
+  light-change c (profile vs) a free result h = light-own (λ (r : Record). profileRule vs r (r .phase)) (λ r. profile-light room r vs)
+  light-change c (rsp run) a free result h = light-run run (λ (r : Record). rspRule r (r .phase)) (rsp-light room)
+  light-change c validateFirst a free result h = light-own (λ (r : Record). firstRule result r (r .phase)) (λ r. first-light room r result (h refl))
+  light-change c (validateSecond timer) a free result h = light-own (λ (r : Record). secondRule timer r (r .phase)) (λ r. second-light room r timer)
 
 -- ---- each record changed
 
@@ -261,7 +225,7 @@ unfolding firstResult
 ready-none true rs e = absurd (omega arith)
 ready-none false rs e = split (anyValidates rs) (λ g. absurd (let z : 3 ≡ 1 = rw g at e in omega arith)) (λ g. busy-none rs g)
 
-few-put : (n : ℕ) (c : CarAddress) (rs : List Record) → Few n rs → (w : Checked Change) → OnYes (λ (x : Change). places.Ready (x .place) (freePlaces rs) (mine c rs)) w → OnYes (LightChange (n - busy rs) (mine c rs)) w
+few-put : (n : ℕ) (c : CarAddress) (rs : List Record) → Few n rs → (w : Checked Change) → OnYes (λ (x : Change). places.Ready (x .place) (freePlaces rs) (mine c rs)) w → OnYes (OfChange (LightOwn (n - busy rs) (mine c rs))) w
     → OnYes (λ (x : Change). Few n (put c (x .place) (x .kept) rs)) w
 few-put n c rs h (no k) r l = tt
 few-put n c rs h (yes x) r l = omega (arith, busy-put c (x .kept) (x .place) rs r)

@@ -22,6 +22,7 @@ use Rattle.rules.specs.declared.Station.{Station}
 use Rattle.rules.specs.declared.Turn.{Turn}
 use Rattle.rules.specs.Constants.{recordCount}
 use Rattle.rules.specs.Calls.{Call, frame, tick, pilot, terminate, linkUp}
+use Rattle.ends.specs.Lists.{All}
 use Rattle.ends.specs.Outcomes.{andThen, next}
 use Rattle.rules.specs.Stations.{Shared, Inner, shared, inner, Done}
 use Rattle.rules.specs.Records.{sameCar, sameRun, mine, freePlaces, noneHeld, freed}
@@ -39,6 +40,7 @@ use Rattle.rules.proofs.Reached.{one-next}
 use Rattle.rules.proofs.Always.{after-all}
 use Rattle.rules.proofs.OneValidates.{one-validates}
 use Rattle.rules.proofs.InvariantKept.{config-same}
+use Rattle.rules.proofs.SpreadLaws.{Wide, step-wide, wide-free, all-ordered}
 use Rattle.rules.proofs.Refusals.{bad-refuses}
 use Rattle.rules.proofs.Demand3Holds.{one-record, mine-free}
 
@@ -188,9 +190,9 @@ held-next : (i : Inner) (w : Checked Done) → HeldIn (i .state) (i .records) �
 held-next i (no n) h k = h
 held-next i (yes d) h k = k
 
-step-reaches : (s : Station) (x : Call) → Reachable s → Reachable (step s x)
+step-reaches : (s : Station) (x : Call) → Reachable s → All Wide (step s x .records) → Reachable (step s x)
 unfolding step
-step-reaches s x h = record {
+step-reaches s x h w = record {
   one = one-next (shared s) (inner s) x (h .one);
   held = held-next (inner s) (rule (shared s) (inner s) x) (h .held) (held-rule (shared s) (inner s) x (h .held));
   validating = one-validates (shared s) (inner s) x (h .validating);
@@ -198,13 +200,26 @@ step-reaches s x h = record {
   bad = λ g.
       let b : s .config .good ≡ false = ap (λ (o : Configuration). o .good) (sym (config-same (shared s) x)) ∙ g in
       ap (λ (w : Checked Done). next (inner s) w .state) (bad-refuses (shared s) (inner s) x b) ∙ h .bad b;
+  ordered = all-ordered (step s x .records) w;
 }
 
 configured-reachable : (a : StationAddress) (m : ModemAddress) (nid : Nid) (nmk : Nmk) (exempt : Bool) → Reachable (configured a m nid nmk exempt)
 unfolding configured
 configured-reachable a m nid nmk exempt =
-    let h : noneHeld (replicate recordCount freeRecord) ≡ true = mine-none _ (λ c. mine-free c recordCount) in
-    record { one = λ c. one-record a m nid nmk exempt [] c; held = h; validating = omega (arith, free-busy (replicate recordCount freeRecord) h); unplugged = λ p. refl; bad = λ g. refl }
+    let rs = replicate recordCount freeRecord in
+    let h : noneHeld rs ≡ true = mine-none _ (λ c. mine-free c recordCount) in
+    record { one = λ c. one-record a m nid nmk exempt [] c; held = h; validating = omega (arith, free-busy rs h); unplugged = λ p. refl; bad = λ g. refl; ordered = all-ordered rs (wide-free recordCount) }
+
+-- reachable, and what the order of each group's values rests on
+abbrev Reaches : Station → Type 0
+Reaches s = Reachable s × All Wide (s .records)
+
+reaches-next : (s : Station) (x : Call) → Reaches s → Reaches (step s x)
+reaches-next s x h = let w = step-wide s x (h .1) in (step-reaches s x (h .0) w, w)
+
+configured-reaches : (a : StationAddress) (m : ModemAddress) (nid : Nid) (nmk : Nmk) (exempt : Bool) → Reaches (configured a m nid nmk exempt)
+unfolding configured
+configured-reaches a m nid nmk exempt = (configured-reachable a m nid nmk exempt, wide-free recordCount)
 
 pub reachable : (address : StationAddress) (modem : ModemAddress) (nid : Nid) (nmk : Nmk) (exempt : Bool) (xs : List Call) → Reachable (after (configured address modem nid nmk exempt) xs)
-reachable a m nid nmk exempt xs = after-all Reachable step-reaches (configured a m nid nmk exempt) xs (configured-reachable a m nid nmk exempt)
+reachable a m nid nmk exempt xs = after-all Reaches reaches-next (configured a m nid nmk exempt) xs (configured-reaches a m nid nmk exempt) .0

@@ -41,10 +41,14 @@ module _ (G : Record → Type 0) where
   all-insert n g [] h = tt
   all-insert n g (r ∷ rs) h = split (isHeld r) (λ e. rw e (h .0, all-insert n g rs (h .1))) (λ e. rw e (g, h .1))
 
-  pub all-put : (c : CarAddress) (p : Place) (r : Record) → G (owned c r) → (rs : List Record) → All G rs → All G (put c p r rs)
+  all-put : (c : CarAddress) (p : Place) (r : Record) → G (owned c r) → (rs : List Record) → All G rs → All G (put c p r rs)
   unfolding put
   all-put c ownPlace r g rs h = all-update c (owned c r) g rs h
   all-put c freePlace r g rs h = all-insert (owned c r) g rs h
+
+  pub all-change : (c : CarAddress) (rs : List Record) → All G rs → (w : Checked Change) → OnYes (λ (x : Change). G (owned c (x .kept))) w → OnYes (λ (x : Change). All G (put c (x .place) (x .kept) rs)) w
+  all-change c rs h (no n) g = tt
+  all-change c rs h (yes x) g = all-put c (x .place) (x .kept) g rs h
 
 -- ---- a held record's car is a unicast one
 
