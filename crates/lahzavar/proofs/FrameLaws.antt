@@ -111,7 +111,7 @@ module _ (w s z : List ℕ) (c : CarAddress) where
 
     module _ (a : ℕ) (t : st ≡ Matching a) (p : Found) (ep : (u h : List ℕ) → p ≡ placeOf c (recordsOf w u h)) where
       -- PARM.REQ, by what is answered of the place
-      pub takes-parm : (run : RunId) (x k : Admission) → admissionOf x ≡ admissionRule p (ltb 0 a) → x ≡ k
+      pub takes-parm : (run : RunId) (x k : Admission) → admissionOf x ≡ admissionRule run p (ltb 0 a) → x ≡ k
           → ruleOf (forRecord (parmReq run)) ≡ andThen (admissionOf k) (λ (i : ℕ). settled (stationOf w s z) i c (keeps (fresh c run) (parmCnf run ∷ [])))
       unfolding stationOf
       takes-parm run x k ex ek =

@@ -31,7 +31,7 @@ use Rattle.rules.specs.Frames.{Kept, Change, putBack, startRule, soundRule, pro
 use Rattle.ends.specs.Lists.{All, only, joins}
 use Rattle.ends.specs.Outcomes.{Outcome, framesOf, joined, andThen, outcomeOf}
 use Rattle.rules.specs.Received.{RecordMessage, parmReq, start, sound, profile, rsp, validateFirst, validateSecond, Request, forRecord, matchReq, Received, received}
-use Rattle.rules.specs.Records.{sameCar, sameRun, isHeld, holds, mine, freePlaces, freed, merged, added, counted}
+use Rattle.rules.specs.Records.{sameCar, sameRun, isEmpty, isHeld, holds, mine, freePlaces, freed, merged, added, counted}
 use Rattle.rules.specs.Replies.{Reply, parmCnf, matchCnf, report, confirmation, isReport, isConfirmation, mean, reportOf, messageTo, frameTo, framesTo}
 use Rattle.rules.specs.Rules.{rule, outcome}
 use Rattle.rules.specs.Sounds.{isIn}
@@ -262,7 +262,7 @@ parm-one c run a free [] = on-check OneChange (ltb 0 a) 9 _ (λ g. on-check OneC
 
 change-one : (c : CarAddress) (m : RecordMessage) (a free x : ℕ) (own : List Record) → All Sums own → OnYes OneChange (changeRule c m a free x own)
 unfolding changeRule
-change-one c (parmReq run) a free x own g = parm-one c run a free own
+change-one c (parmReq run) a free x own g = on-check OneChange (not (isEmpty run)) 21 _ (λ e. parm-one c run a free own)
 change-one c (start run) a free x own g = back-one (atRun run own (λ (r : Record). startRule r (r .phase))) (on-run OneKept run own (λ (r : Record). startRule r (r .phase)) (λ r rs e. start-one r (r .phase)))
 change-one c (sound run k) a free x own g = back-one (atRun run own (λ (r : Record). soundRule k r (r .phase))) (on-run OneKept run own (λ (r : Record). soundRule k r (r .phase)) (λ r rs e. sound-one k r (r .phase)))
 change-one c (profile vs) a free x own g = back-one (atOwn own (λ (r : Record). profileRule vs r (r .phase))) (on-own OneKept own (λ (r : Record). profileRule vs r (r .phase)) (λ r rs e. profile-one vs r (subst (All Sums) e g .0) (r .phase)))

@@ -93,7 +93,7 @@ fn admit(
     )
 }
 
-// PARM.REQ: the car's own record restarts; else 9, 10, or the first free record.
+// PARM.REQ: 21, or the car's own record restarts; else 9, 10, or the first free record.
 fn parm_req(
     words: &mut StationWords,
     sums: &mut StationSums,
@@ -110,7 +110,7 @@ fn parm_req(
         return answers::refused(Refusal::WrongState);
     };
     let found = words::find(words, car);
-    let admission = admission::place_for(found, left);
+    let admission = admission::place_for(run, found, left);
     match admission {
         Admission::At(i) => admit(words, sums, spread, i, car, run, out),
         Admission::Refused(refusal) => answers::refused(refusal),

@@ -9,7 +9,7 @@ use Rattle.messages.specs.Reading.{yes}
 use Rattle.messages.specs.Answers.{numberOf, messageOf}
 use Rattle.messages.specs.Claims.{NumbersDiffer, AnswersDiffer, WrittenDiffer}
 use Rattle.messages.specs.declared.Refusal.{Refusal}
-use Rattle.messages.specs.declared.Refusal.the-variants.{TooShort, BadHead, UnknownType, TooLong, BadAddress, BadOctet, NotForUs, WrongState, AdmissionClosed, RecordsFull, NoRecord, WrongPhase, BadSoundCount, TickGap, OutputTooShort, BadConfiguration, OnlyForCars, ReportsFull, OnlyForStations, NoSounds}
+use Rattle.messages.specs.declared.Refusal.the-variants.{TooShort, BadHead, UnknownType, TooLong, BadAddress, BadOctet, NotForUs, WrongState, AdmissionClosed, RecordsFull, NoRecord, WrongPhase, BadSoundCount, TickGap, OutputTooShort, BadConfiguration, OnlyForCars, ReportsFull, OnlyForStations, NoSounds, EmptyRun}
 use Rattle.messages.specs.declared.Message.{Message}
 use Rattle.messages.specs.declared.Message.the-variants.{SlacParmReq, SlacParmCnf, StartAttenCharInd, AttenCharInd, AttenCharRsp, MnbcSoundInd, ValidateReq, ValidateCnf, SlacMatchReq, SlacMatchCnf, AttenProfileInd}
 use Rattle.messages.specs.declared.ReadAnswer.the-variants as readAnswer
@@ -21,7 +21,7 @@ refusals : List Refusal
 refusals =
     TooShort ∷ BadHead ∷ UnknownType ∷ TooLong ∷ BadAddress ∷ BadOctet ∷ NotForUs ∷ WrongState ∷ AdmissionClosed ∷ RecordsFull ∷ NoRecord ∷ WrongPhase
     ∷ BadSoundCount ∷ TickGap ∷ OutputTooShort ∷ BadConfiguration ∷ OnlyForCars ∷ ReportsFull ∷ OnlyForStations
-    ∷ NoSounds ∷ []
+    ∷ NoSounds ∷ EmptyRun ∷ []
 
 -- the refusal that has a number
 refusalOf : ℕ → Refusal
@@ -49,6 +49,7 @@ refusal-back OnlyForCars = refl
 refusal-back ReportsFull = refl
 refusal-back OnlyForStations = refl
 refusal-back NoSounds = refl
+refusal-back EmptyRun = refl
 
 pub numbers-differ : NumbersDiffer
 numbers-differ x y e = sym (refusal-back x) ∙ ap refusalOf e ∙ refusal-back y

@@ -65,6 +65,7 @@ pub enum Refusal {
     ReportsFull,
     OnlyForStations,
     NoSounds,
+    EmptyRun,
 }
 
 // A message without its group values.
@@ -175,6 +176,7 @@ pub fn refusal_number(refusal: Refusal) -> u32
         Refusal::ReportsFull => 18,
         Refusal::OnlyForStations => 19,
         Refusal::NoSounds => 20,
+        Refusal::EmptyRun => 21,
     }
 }
 

@@ -1,9 +1,10 @@
 // Where a PARM.REQ's record goes.
 use messages::Refusal;
+use messages::RunId;
 use records::find::Found;
 ghost use mathlib.Core.Path.{_≡_};
 ghost use lib.Dec.{ltb};
-ghost use Rattle.receiving.specs.AtRecord.{admissionOf, admissionRule};
+ghost use Rattle.receiving.specs.AtRecord.{admissionOf, placeRule, admissionRule};
 
 // The place of the car's record, or a refusal.
 pub enum Admission {
@@ -12,8 +13,8 @@ pub enum Admission {
 }
 
 // The car's own place, even after admission closed; else 9, 10, or the first free place.
-pub fn place_for(found: Found, left: u32) -> Admission
-    ensures { λ a. ⌜ admissionOf a ≡ admissionRule found (ltb 0 left) ⌝ }
+fn place(found: Found, left: u32) -> Admission
+    ensures { λ a. ⌜ admissionOf a ≡ placeRule found (ltb 0 left) ⌝ }
 {
     match found {
         Found::Own(i) => Admission::At(i),
@@ -31,5 +32,16 @@ pub fn place_for(found: Found, left: u32) -> Admission
                 Admission::Refused(Refusal::RecordsFull)
             }
         }
+    }
+}
+
+// 21 where the request's run is empty; else the place of its record.
+pub fn place_for(run: RunId, found: Found, left: u32) -> Admission
+    ensures { λ a. ⌜ admissionOf a ≡ admissionRule run found (ltb 0 left) ⌝ }
+{
+    if run.0 == 0 {
+        Admission::Refused(Refusal::EmptyRun)
+    } else {
+        place(found, left)
     }
 }

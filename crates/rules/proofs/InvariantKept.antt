@@ -73,6 +73,10 @@ fit-fresh : (c : CarAddress) (run : RunId) → Fit (fresh c run)
 unfolding fresh noSums
 fit-fresh c run = record { sums = λ i. omega (arith, zeros groupCount i); phase = ((omega arith, omega arith), refl); heard = omega arith }
 
+-- a request's record
+pub fresh-good : (c : CarAddress) (run : RunId) → isUnicast (c .0) ≡ true → GoodRecord (owned c (fresh c run))
+fresh-good c run u = good-owned c (fresh c run) u (fit-fresh c run)
+
 sums-added : (xs vs : List ℕ) (n i : ℕ) → ((j : ℕ) → getD xs j 0 ≤ 255 * n) → Octets vs → getD (added xs vs) i 0 ≤ 255 * (n + 1)
 unfolding merged
 sums-added [] vs n i a b = omega arith

@@ -14,7 +14,7 @@ use Rattle.rules.specs.declared.Record.{Record}
 use Rattle.ends.specs.Constants.{soundCount, retryCount}
 use Rattle.rules.specs.Constants.{soundingTime, awaitingTime, windowStep}
 use Rattle.ends.specs.Lists.{All}
-use Rattle.rules.specs.Records.{fresh, inPhase, reported, withHeard, counted}
+use Rattle.rules.specs.Records.{isEmpty, fresh, inPhase, reported, withHeard, counted}
 use Rattle.rules.specs.Sounds.{isIn, marked}
 use Rattle.rules.specs.Replies.{Reply}
 use Rattle.rules.specs.Received.{parmReq}
@@ -104,7 +104,7 @@ on-request P c run a free [] h = on-check (OfChange P) (ltb 0 a) 9 _ (λ g. on-c
 
 pub on-parm : (P : Record → Type 0) (c : CarAddress) (run : RunId) (a free result : ℕ) (own : List Record) → P (fresh c run) → OnYes (OfChange P) (changeRule c (parmReq run) a free result own)
 unfolding changeRule
-on-parm P c run a free result own h = on-request P c run a free own h
+on-parm P c run a free result own h = on-check (OfChange P) (not (isEmpty run)) _ _ (λ e. on-request P c run a free own h)
 
 -- what holds of each record before, and of the one put back
 module _ (G P : Record → Type 0) (own : List Record) (g : All G own) where

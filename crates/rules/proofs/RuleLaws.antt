@@ -1,7 +1,7 @@
 -- Laws of what concerns a car's record: where its record goes, and what the number of free places and a first validate request's result decide.
 use Prim.Native.Nat.{ℕ, _≤_}
 use mathlib.Core.Path.{_≡_, refl}
-use mathlib.Core.Bool.{Bool, true, false, _&&_}
+use mathlib.Core.Bool.{Bool, true, false, not, _&&_}
 use mathlib.Core.List.{List, [], _∷_}
 use lib.Dec.{eqb, ltb}
 use borrow.Author.Tests.{ltb-true, lt-ltb}
@@ -11,7 +11,7 @@ use Rattle.messages.specs.Reading.{Checked, no, yes, check}
 use Rattle.rules.specs.declared.Phase.{Phase}
 use Rattle.rules.specs.declared.Phase.the-variants as phases
 use Rattle.rules.specs.declared.Record.{Record}
-use Rattle.rules.specs.Records.{sameRun}
+use Rattle.rules.specs.Records.{sameRun, isEmpty}
 use Rattle.rules.specs.Replies.{Reply, confirmation}
 use Rattle.rules.specs.Received.{RecordMessage, parmReq, start, sound, profile, rsp, validateFirst, validateSecond}
 use Rattle.rules.specs.Frames.{Kept, freePlace, Change, putBack, startRule, soundRule, profileRule, rspRule, firstRule, secondRule, atOwn, atRun, requested, parmRule, changeRule, matchRule}
@@ -48,7 +48,7 @@ parm-ready c run a free [] = on-check (IsReady free []) (ltb 0 a) 9 _ (λ g. on-
 
 pub change-ready : (c : CarAddress) (m : RecordMessage) (a free result : ℕ) (own : List Record) → OnYes (λ (x : Change). Ready (x .place) free own) (changeRule c m a free result own)
 unfolding changeRule
-change-ready c (parmReq run) a free result own = parm-ready c run a free own
+change-ready c (parmReq run) a free result own = on-check (IsReady free own) (not (isEmpty run)) _ _ (λ e. parm-ready c run a free own)
 change-ready c (start run) a free result own = back-ready free own (atRun run own (λ (r : Record). startRule r (r .phase)))
 change-ready c (sound run k) a free result own = back-ready free own (atRun run own (λ (r : Record). soundRule k r (r .phase)))
 change-ready c (profile vs) a free result own = back-ready free own (atOwn own (λ (r : Record). profileRule vs r (r .phase)))
@@ -114,12 +114,19 @@ validate-same : (result result′ : ℕ) (own : List Record) → OnYes (SameResu
 validate-same result result′ [] v = refl
 validate-same result result′ (r ∷ own) v = first-same result result′ r (r .phase) v
 
+-- a request that 21 refuses is refused whatever is free
+unempty-same : (c : CarAddress) (run : RunId) (b : Bool) (a free free′ : ℕ) (own : List Record)
+    → refusedTen (check b 21 (parmRule c run a free own)) ≡ false → OnYes (λ (x : Change). takes (x .place) ≤ free′) (check b 21 (parmRule c run a free own))
+    → check b 21 (parmRule c run a free own) ≡ check b 21 (parmRule c run a free′ own)
+unempty-same c run true a free free′ own t k = parm-same c run a free free′ own t k
+unempty-same c run false a free free′ own t k = refl
+
 pub change-same : (c : CarAddress) (m : RecordMessage) (a free free′ result result′ : ℕ) (own : List Record)
     → isAsk m && refusedTen (changeRule c m a free result own) ≡ false → OnYes (λ (x : Change). takes (x .place) ≤ free′) (changeRule c m a free result own)
     → OnYes (SameResult m result result′) (changeRule c m a free result own)
     → changeRule c m a free result own ≡ changeRule c m a free′ result′ own
 unfolding changeRule
-change-same c (parmReq run) a free free′ result result′ own t k v = parm-same c run a free free′ own t k
+change-same c (parmReq run) a free free′ result result′ own t k v = unempty-same c run (not (isEmpty run)) a free free′ own t k
 change-same c (start run) a free free′ result result′ own t k v = refl
 change-same c (sound run n) a free free′ result result′ own t k v = refl
 change-same c (profile vs) a free free′ result result′ own t k v = refl
@@ -127,10 +134,15 @@ change-same c (rsp run) a free free′ result result′ own t k v = refl
 change-same c validateFirst a free free′ result result′ own t k v = validate-same result result′ own v
 change-same c (validateSecond timer) a free free′ result result′ own t k v = refl
 
+-- what is refused after a test is refused
+still-no : (b : Bool) (m n : ℕ) → (k : ℕ) × (check {A = Change} b m (no n) ≡ no k)
+still-no true m n = (n, refl)
+still-no false m n = (m, refl)
+
 -- admission closed, and no record: whatever comes is refused
 pub change-closed : (c : CarAddress) (m : RecordMessage) (free result : ℕ) → (n : ℕ) × (changeRule c m 0 free result [] ≡ no n)
 unfolding changeRule parmRule
-change-closed c (parmReq run) free result = (9, refl)
+change-closed c (parmReq run) free result = still-no (not (isEmpty run)) _ _
 change-closed c (start run) free result = (11, refl)
 change-closed c (sound run k) free result = (11, refl)
 change-closed c (profile vs) free result = (11, refl)

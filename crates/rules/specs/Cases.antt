@@ -1,4 +1,4 @@
--- The proved table of the bench cases P1 to P12 and of validation's V1 to V10: octets, readings and states, and what must come out.
+-- The proved table of the bench cases P1 to P12, of validation's V1 to V10 and of requests with an empty run: octets, readings and states, and what must come out.
 use Prim.Native.Nat.{ℕ, zero, suc, _+_, _-_}
 use mathlib.Core.Path.{_≡_}
 use mathlib.Core.Bool.{Bool, true, false}
@@ -98,6 +98,10 @@ reportTo used v =
     ∷ 0x00 ∷ 0x00 ∷ 0x02 ∷ 0x00 ∷ 0x00 ∷ 0x00 ∷ 0x00 ∷ 0x01 ∷ 0x01 ∷ 0x02 ∷ 0x03 ∷ 0x04 ∷ 0x05 ∷ 0x06 ∷ 0x07 ∷ 0x08
     ∷ replicate 34 0x00 ++ (used ∷ groupCount ∷ replicate groupCount v)
 
+-- the request of the car 02:00:00:00:00:n with an empty run
+abbrev emptyOf : ℕ → List ℕ
+emptyOf n = take 21 (request n) ++ replicate 39 0x00
+
 -- the head of a frame from the car 02:00:00:00:00:n to us, and from us to it, with the type's low octet
 abbrev toUs : ℕ → ℕ → List ℕ
 toUs n type = 0x02 ∷ 0x00 ∷ 0x00 ∷ 0x00 ∷ 0x00 ∷ 0xAA ∷ 0x02 ∷ 0x00 ∷ 0x00 ∷ 0x00 ∷ 0x00 ∷ n ∷ 0x88 ∷ 0xE1 ∷ 0x01 ∷ type ∷ 0x60 ∷ 0x00 ∷ 0x00 ∷ []
@@ -151,7 +155,7 @@ heard p = held 1 p 0 10 100
 abbrev joining : State
 joining = Joining 12000 (record { 0 = 0x020000000001 }) (record { 0 = 0x0102030405060708 })
 
--- P1 to P12, V1 to V10
+-- P1 to P12, V1 to V10, empty runs
 unfoldable pub table : List Row
 table =
     -- P1, P3 to P6: the request whole, and cut to or extended to a length
@@ -250,6 +254,15 @@ table =
     ∷ record {
       asked = running (station (Matching 0) C 0 (heard (Counting 1000 0 false) ∷ [])) (tick 1000 leastOutput ∷ []);
       expected = runs (yes (record { frames = cnfTo 1 0 3 ∷ []; indication = NoLink }) ∷ []) Unmatched 1000 [];
+    }
+    -- an empty run, of a car with a record and of one without: 21, where all records are held and where admission is closed; the record is left
+    ∷ record {
+      asked = running (station (Matching 50000) B 0 (older ∷ others (recordCount - 1))) (frame (emptyOf 1) leastOutput ∷ frame (emptyOf (recordCount + 1)) leastOutput ∷ []);
+      expected = runs (no 21 ∷ no 21 ∷ []) (Matching 50000) 0 (older ∷ others (recordCount - 1));
+    }
+    ∷ record {
+      asked = running (station (Matching 0) B 0 (older ∷ [])) (frame (emptyOf 1) leastOutput ∷ frame (emptyOf 2) leastOutput ∷ []);
+      expected = runs (no 21 ∷ no 21 ∷ []) (Matching 0) 0 (older ∷ []);
     }
     ∷ []
 

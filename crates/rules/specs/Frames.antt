@@ -16,7 +16,7 @@ use Rattle.rules.specs.declared.State.the-variants.{Unmatched, Matching,
 use Rattle.ends.specs.Constants.{joiningTime, retryCount, soundCount}
 use Rattle.rules.specs.Constants.{soundingTime, awaitingTime, readyTime, windowStep, readyResult, leastOutput}
 use Rattle.ends.specs.Outcomes.{andThen}
-use Rattle.rules.specs.Records.{sameCar, sameRun, mine, freePlaces, owned, freed, update, insert, fresh, inPhase, reported, withHeard, counted}
+use Rattle.rules.specs.Records.{sameCar, sameRun, isEmpty, mine, freePlaces, owned, freed, update, insert, fresh, inPhase, reported, withHeard, counted}
 use Rattle.rules.specs.Sounds.{isIn, marked}
 use Rattle.rules.specs.Replies.{Reply, parmCnf, matchCnf, confirmation, reportOf, framesTo}
 use Rattle.rules.specs.Received.{RecordMessage, parmReq, start, sound, profile, rsp, validateFirst, validateSecond, Request, forRecord, matchReq, Received, isForUs}
@@ -114,7 +114,7 @@ mayMatch (Ready t) = false
 mayMatch (Counting t n b) = false
 mayMatch (Success t) = true
 
--- ---- at the car's records: 9 and 10, or 11
+-- ---- at the car's records: 21, then 9 and 10, or 11
 
 module _ {A : Type 0} where
   -- 11 where the car holds no record
@@ -152,9 +152,9 @@ parmRule c run admission free [] =
     (check (ltb 0 free) 10
     (yes (requested c run freePlace)))
 
--- each message at car c's own records, with admission's time left, the number of free places, and what a first VALIDATE.REQ is answered
+-- each message at car c's own records, a PARM.REQ with an empty run at none, with admission's time left, the number of free places, and what a first VALIDATE.REQ is answered
 unfoldable pub changeRule : CarAddress → RecordMessage → ℕ → ℕ → ℕ → List Record → Checked Change
-changeRule c (parmReq run) admission free result own = parmRule c run admission free own
+changeRule c (parmReq run) admission free result own = check (not (isEmpty run)) 21 (parmRule c run admission free own)
 changeRule c (start run) admission free result own = putBack (atRun run own (λ (r : Record). startRule r (r .phase)))
 changeRule c (sound run k) admission free result own = putBack (atRun run own (λ (r : Record). soundRule k r (r .phase)))
 changeRule c (profile vs) admission free result own = putBack (atOwn own (λ (r : Record). profileRule vs r (r .phase)))

@@ -22,6 +22,10 @@ sameCar c d = eqb (c .0) (d .0)
 unfoldable pub sameRun : RunId → RunId → Bool
 sameRun a b = eqb (a .0) (b .0)
 
+-- "a run of eight zero octets"
+unfoldable pub isEmpty : RunId → Bool
+isEmpty run = eqb (run .0) 0
+
 -- a record that a car holds
 unfoldable pub isHeld : Record → Bool
 isHeld r = r .held

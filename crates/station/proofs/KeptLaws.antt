@@ -4,15 +4,14 @@ use mathlib.Core.Path.{_≡_, sym, subst}
 use mathlib.Core.Bool.{true}
 use mathlib.Core.List.{List, [], _∷_}
 use Rattle.messages.specs.declared.CarAddress.{CarAddress}
-use Rattle.messages.specs.declared.RunId.{RunId}
 use Rattle.octets.specs.Octets.{Octets}
 use Rattle.messages.specs.Reading.{Checked, no, yes, groupsOf, readRules}
 use Rattle.messages.specs.Table.{isUnicast}
 use Rattle.messages.specs.Table as table
 use Rattle.rules.specs.declared.Record.{Record}
-use Rattle.rules.specs.Received.{parmReq, forRecord}
-use Rattle.rules.specs.Records.{owned, fresh}
-use Rattle.rules.specs.Frames.{Kept, Change, putBack, requested, parmRule, changeRule}
+use Rattle.rules.specs.Received.{forRecord}
+use Rattle.rules.specs.Records.{owned}
+use Rattle.rules.specs.Frames.{Kept, Change, putBack}
 use Rattle.rules.specs.Invariant.{GoodRecord}
 use Rattle.rules.proofs.InvariantKept.{change-good}
 use Rattle.ends.proofs.Logic.{OnYes}
@@ -55,11 +54,6 @@ own-good : (c : CarAddress) (m : OwnMessage) (g : List ℕ) (r : Record) → isU
 own-good c m g r u h o t =
     put-good c (ownRule m g r)
     (subst (OnYes (λ (y : Change). GoodRecord (owned c (y .kept)))) (change-own c m g 0 0 0 (r ∷ [])) (change-good c u (r ∷ []) (h, tt) (ownMessageOf m g) (octet-message m g o t) 0 0 0))
-
--- PARM.REQ's record
-pub fresh-good : (c : CarAddress) (run : RunId) → isUnicast (c .0) ≡ true → GoodRecord (owned c (fresh c run))
-unfolding changeRule parmRule requested
-fresh-good c run u = change-good c u [] tt (parmReq run) tt 1 1 0
 
 -- as the code gives it
 pub kept-good : (c : CarAddress) (m : OwnMessage) (s : List ℕ) (r : Record) (k : code.Kept) → Keeps r (ownRule m (groupsOf (readRules s)) r) k × TimerFits m → isUnicast (c .0) ≡ true → GoodRecord r → Octets s

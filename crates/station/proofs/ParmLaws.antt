@@ -1,7 +1,7 @@
 -- PARM.REQ, in the rules' words: by the place that its record is given.
 use Prim.Native.Nat.{ℕ, _<_}
 use mathlib.Core.Path.{_≡_, refl, sym, ap, ap₂, _∙_}
-use mathlib.Core.Bool.{Bool, true, false}
+use mathlib.Core.Bool.{Bool, true, false, not}
 use mathlib.Core.List.{List, [], _∷_}
 use native.Mathlib.Omega.{arith}
 use borrow.Author.Tests.{lt-ltb, le-ltb}
@@ -16,18 +16,18 @@ use Rattle.rules.specs.declared.Record.{Record}
 use Rattle.rules.specs.declared.State.{State}
 use Rattle.rules.specs.declared.State.the-variants.{Matching}
 use Rattle.ends.specs.Outcomes.{andThen}
-use Rattle.rules.specs.Records.{mine, freePlaces, owned, fresh}
+use Rattle.rules.specs.Records.{isEmpty, mine, freePlaces, owned, fresh}
 use Rattle.rules.specs.Received.{parmReq, forRecord}
 use Rattle.rules.specs.Replies.{parmCnf, framesTo}
 use Rattle.rules.specs.Stations.{Done, done}
-use Rattle.rules.specs.Frames.{Change, freePlace, requested, parmRule, changeRule, put, changed, stateRule}
+use Rattle.rules.specs.Frames.{Change, ownPlace, freePlace, requested, parmRule, changeRule, put, changed, stateRule}
 use Rattle.records.specs.declared.find.Found.{Found}
 use Rattle.records.specs.declared.find.Found.the-variants.{Own, Free, Nothing}
 use Rattle.records.specs.Places.{placeOf}
 use Rattle.records.proofs.PlaceLaws.{FoundAt, found}
 use Rattle.receiving.specs.declared.admission.Admission.{Admission}
 use Rattle.receiving.specs.declared.admission.Admission.the-variants.{At}
-use Rattle.receiving.specs.AtRecord.{admissionRule, admissionOf}
+use Rattle.receiving.specs.AtRecord.{placeRule, admissionRule, admissionOf}
 use Rattle.receiving.proofs.JudgeLaws.{no-yes}
 
 module _ (o : Configuration) (st : State) (rs : List Record) (c : CarAddress) (run : RunId) (a : ℕ) (e : st ≡ Matching a) where
@@ -36,48 +36,58 @@ module _ (o : Configuration) (st : State) (rs : List Record) (c : CarAddress) (r
   admits i = yes (done st (set rs i (owned c (fresh c run))) (framesTo o c (parmCnf run ∷ [])) indication.Nothing)
 
   -- by the car's records and the free places
-  asked : (own : List Record) → mine c rs ≡ own → stateRule o st rs c (forRecord (parmReq run)) ≡ andThen (parmRule c run a (freePlaces rs) own) (λ (x : Change). yes (changed o st rs c x))
+  asked : (own : List Record) → mine c rs ≡ own → stateRule o st rs c (forRecord (parmReq run)) ≡ andThen (check (not (isEmpty run)) 21 (parmRule c run a (freePlaces rs) own)) (λ (x : Change). yes (changed o st rs c x))
   unfolding stateRule changeRule
   asked own m =
       ap (λ (q : State). stateRule o q rs c (forRecord (parmReq run))) e
-      ∙ ap₂ (λ (l : List Record) (q : State). andThen (parmRule c run a (freePlaces rs) l) (λ (x : Change). yes (changed o q rs c x))) m (sym e)
+      ∙ ap₂ (λ (l : List Record) (q : State). andThen (check (not (isEmpty run)) 21 (parmRule c run a (freePlaces rs) l)) (λ (x : Change). yes (changed o q rs c x))) m (sym e)
 
   -- a car with no record: 9, 10, or the first free record
   asked-none : (f : Bool) → mine c rs ≡ [] → ltb 0 (freePlaces rs) ≡ f
-      → stateRule o st rs c (forRecord (parmReq run)) ≡ andThen (check (ltb 0 a) 9 (check f 10 (yes (requested c run freePlace)))) (λ (x : Change). yes (changed o st rs c x))
+      → stateRule o st rs c (forRecord (parmReq run)) ≡ andThen (check (not (isEmpty run)) 21 (check (ltb 0 a) 9 (check f 10 (yes (requested c run freePlace))))) (λ (x : Change). yes (changed o st rs c x))
   unfolding parmRule
-  asked-none f m q = asked [] m ∙ ap (λ (y : Bool). andThen (check (ltb 0 a) 9 (check y 10 (yes (requested c run freePlace)))) (λ (z : Change). yes (changed o st rs c z))) q
+  asked-none f m q = asked [] m ∙ ap (λ (y : Bool). andThen (check (not (isEmpty run)) 21 (check (ltb 0 a) 9 (check y 10 (yes (requested c run freePlace))))) (λ (z : Change). yes (changed o st rs c z))) q
 
-  -- what follows a test with 9
-  nine : {A : Type 0} (b : Bool) (x : Checked A) (y : Checked ℕ) (f : A → Checked Done) → andThen x f ≡ andThen y admits → andThen (check b 9 x) f ≡ andThen (check b 9 y) admits
-  nine true x y f q = q
-  nine false x y f q = refl
+  -- what follows the same test
+  tested : {A : Type 0} (b : Bool) (n : ℕ) (x : Checked A) (y : Checked ℕ) (f : A → Checked Done) → andThen x f ≡ andThen y admits → andThen (check b n x) f ≡ andThen (check b n y) admits
+  tested true n x y f q = q
+  tested false n x y f q = refl
 
   -- by the place: the car's own, the first free one, or none
-  by-place : (p : Found) → FoundAt c rs p → stateRule o st rs c (forRecord (parmReq run)) ≡ andThen (admissionRule p (ltb 0 a)) admits
+  by-place : (p : Found) → FoundAt c rs p → stateRule o st rs c (forRecord (parmReq run)) ≡ andThen (admissionRule run p (ltb 0 a)) admits
   unfolding parmRule requested put
-  by-place (Own i) w = asked _ (w .mine (fresh c run)) ∙ ap (λ (l : List Record). yes (done st l (framesTo o c (parmCnf run ∷ [])) indication.Nothing)) (sym (w .put (owned c (fresh c run))))
+  by-place (Own i) w =
+      asked _ (w .mine (fresh c run))
+      ∙ tested (not (isEmpty run)) 21 (yes (requested c run ownPlace)) (yes i) (λ (z : Change). yes (changed o st rs c z))
+      (ap (λ (l : List Record). yes (done st l (framesTo o c (parmCnf run ∷ [])) indication.Nothing)) (sym (w .put (owned c (fresh c run)))))
   by-place (Free i) w =
       asked-none true (w .mine) (lt-ltb 0 (freePlaces rs) (w .free))
-      ∙ nine (ltb 0 a) (yes (requested c run freePlace)) (yes i) (λ (z : Change). yes (changed o st rs c z))
-      (ap (λ (l : List Record). yes (done st l (framesTo o c (parmCnf run ∷ [])) indication.Nothing)) (sym (w .put (owned c (fresh c run)))))
+      ∙ tested (not (isEmpty run)) 21 (check (ltb 0 a) 9 (yes (requested c run freePlace))) (check (ltb 0 a) 9 (yes i)) (λ (z : Change). yes (changed o st rs c z))
+      (tested (ltb 0 a) 9 (yes (requested c run freePlace)) (yes i) (λ (z : Change). yes (changed o st rs c z))
+      (ap (λ (l : List Record). yes (done st l (framesTo o c (parmCnf run ∷ [])) indication.Nothing)) (sym (w .put (owned c (fresh c run))))))
   by-place Nothing w =
       asked-none false (w .mine) (le-ltb 0 (freePlaces rs) (omega (arith, w .free)))
-      ∙ nine (ltb 0 a) (no 10) (no 10) (λ (z : Change). yes (changed o st rs c z)) refl
+      ∙ tested (not (isEmpty run)) 21 (check (ltb 0 a) 9 (no 10)) (check (ltb 0 a) 9 (no 10)) (λ (z : Change). yes (changed o st rs c z))
+      (tested (ltb 0 a) 9 (no 10) (no 10) (λ (z : Change). yes (changed o st rs c z)) refl)
 
   -- a place that is given is inside
-  given-inside : (p : Found) (isOpen : Bool) (i : ℕ) → FoundAt c rs p → admissionRule p isOpen ≡ yes i → i < length rs
+  given-inside : (p : Found) (isOpen : Bool) (i : ℕ) → FoundAt c rs p → placeRule p isOpen ≡ yes i → i < length rs
   given-inside (Own k) isOpen i w q = let z : k ≡ i = cc in omega (arith, w .inside)
   given-inside (Free k) true i w q = let z : k ≡ i = cc in omega (arith, w .inside)
   given-inside (Free k) false i w q = no-yes 9 i q
   given-inside Nothing true i w q = no-yes 10 i q
   given-inside Nothing false i w q = no-yes 9 i q
 
-  module _ (p : Found) (ep : p ≡ placeOf c rs) (x : Admission) (ex : admissionOf x ≡ admissionRule p (ltb 0 a)) where
+  -- and so where a test stands before it
+  tested-inside : (b : Bool) (p : Found) (isOpen : Bool) (i : ℕ) → FoundAt c rs p → check b 21 (placeRule p isOpen) ≡ yes i → i < length rs
+  tested-inside true p isOpen i w q = given-inside p isOpen i w q
+  tested-inside false p isOpen i w q = no-yes 21 i q
+
+  module _ (p : Found) (ep : p ≡ placeOf c rs) (x : Admission) (ex : admissionOf x ≡ admissionRule run p (ltb 0 a)) where
     -- the rule by what the code answers
     pub parm-answered : stateRule o st rs c (forRecord (parmReq run)) ≡ andThen (admissionOf x) admits
     parm-answered = by-place p (found c rs p p ep refl) ∙ ap (λ (w : Checked ℕ). andThen w admits) (sym ex)
 
     -- the place that it gives is inside
     pub parm-inside : (i : ℕ) → x ≡ At i → i < length rs
-    parm-inside i t = given-inside p (ltb 0 a) i (found c rs p p ep refl) (sym ex ∙ ap admissionOf t)
+    parm-inside i t = tested-inside (not (isEmpty run)) p (ltb 0 a) i (found c rs p p ep refl) (sym ex ∙ ap admissionOf t)

@@ -64,7 +64,7 @@ fn admit(station: Station, i: usize, car: CarAddress, run: RunId, out: &mut [u8]
     sending::parm_cnf(station, next, car, run, out)
 }
 
-// PARM.REQ: the car's own record restarts; else 9, 10, or the first free record.
+// PARM.REQ: 21, or the car's own record restarts; else 9, 10, or the first free record.
 fn parm_req(station: Station, car: CarAddress, run: RunId, out: &mut [u8]) -> Stepped
     requires { ⌜ Ready station car (now out) ⌝ }
     ensures { λ r. ⌜ Comes station (stateRule (station .config) (station .state) (station .records) car (forRecord (parmReq run))) (now (out .entry)) (now (out .exit)) r ⌝ }
@@ -75,7 +75,7 @@ fn parm_req(station: Station, car: CarAddress, run: RunId, out: &mut [u8]) -> St
     };
     let records = station.records;
     let found = records::find::find(records, car);
-    let admission = admission::place_for(found, left);
+    let admission = admission::place_for(run, found, left);
     match admission {
         Admission::At(i) => admit(station, i, car, run, out),
         Admission::Refused(refusal) => answers::refused(station, refusal),

@@ -16,7 +16,7 @@ use Rattle.rules.specs.Replies.{parmCnf, messageTo}
 use Rattle.rules.specs.Invariant.{GoodRecord}
 use Rattle.ends.proofs.SendLaws.{writable-as}
 use Rattle.station.proofs.SendLaws.{parm-cnf-writable}
-use Rattle.station.proofs.KeptLaws.{fresh-good}
+use Rattle.rules.proofs.InvariantKept.{fresh-good}
 use Rattle.lahzavar.proofs.FrameLaws.{comes-as, config-here}
 use mathlib.Core.Path.{sym, ap, ap₂, _∙_, subst}
 use borrow.Author.Needs.{needs}
