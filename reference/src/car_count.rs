@@ -2,7 +2,7 @@
 
 use crate::car::{total, Car, Config, Indication, Report, State};
 use crate::car_script::Event;
-use crate::count::{end, Table, ENDS};
+use crate::count::{end, short, Table, ENDS};
 use crate::messages::{Address, Body, Kind, Message};
 use crate::refusal::{self, Refusal};
 use crate::script::Outcome;
@@ -23,7 +23,8 @@ const TAKEN: [(Kind, &[&str]); 4] = [
 const TIMES: [&str; 6] =
     ["Asking", "Confirmed", "Sounding, next", "Sounding, gathering", "Requesting", "Joining"];
 
-const ACCEPTED: [&str; 24] = [
+const ACCEPTED: [&str; 25] = [
+    "start with an empty run",
     "start, the first",
     "start after no PARM.CNF",
     "start after no report",
@@ -221,7 +222,10 @@ impl Counts {
     fn accepted(&mut self, event: &Event, before: &Car) {
         let state = name(&before.state);
         let what = match event {
-            Event::Start { .. } => {
+            Event::Start { run, .. } => {
+                if run.is_empty() {
+                    self.table.add("4 accepted", "start with an empty run");
+                }
                 if std::mem::take(&mut self.stuck) {
                     self.table.add("8 tick", "after 14, a start");
                 }
@@ -483,12 +487,6 @@ fn name(state: &State) -> &'static str {
         State::Joining { .. } => "Joining",
         State::Matched { .. } => "Matched",
     }
-}
-
-/// A message's name without its CM_ or CM_SLAC_.
-fn short(kind: Kind) -> &'static str {
-    let name = kind.name();
-    name.strip_prefix("CM_SLAC_").or_else(|| name.strip_prefix("CM_")).unwrap_or(name)
 }
 
 impl fmt::Display for Counts {

@@ -491,6 +491,17 @@ fn the_order_of_a_start() {
 }
 
 #[test]
+fn a_start_takes_an_empty_run() {
+    let mut bench = Bench::idle();
+    let run = RunId([0; 8]);
+    let request = octets("6*FF 02 00 00 00 00 01 88 E1 01 64 60 43*00");
+    let seen = bench.call(85, |car, output| car.start(run, RANDOM, 5, output));
+    assert_eq!(seen, sends(&request));
+    assert_eq!(bench.station(CONFIRMATION), Err(11));
+    assert_eq!(bench.station(Body::ParmCnf { run }), NOTHING);
+}
+
+#[test]
 fn a_start_takes_all_anew() {
     let mut bench = Bench::sounding();
     assert!(bench.station(report(10, 20)).is_ok());

@@ -2,9 +2,10 @@
 
 use crate::messages::{Body, Kind, Message};
 use crate::refusal::{self, Refusal};
+use crate::run_count::Runs;
 use crate::script::{Event, Outcome};
 use crate::spread_count::Spreads;
-use crate::station::{Config, Indication, Phase, State, Station};
+use crate::station::{Config, Indication, Phase, Record, State, Station};
 use crate::validation_count::{named, Validations};
 use std::cmp::Ordering;
 use std::collections::BTreeMap;
@@ -76,12 +77,40 @@ pub fn end(left: u32, elapsed: u32) -> &'static str {
     }
 }
 
+/// The state's name.
+pub fn state(station: &Station) -> &'static str {
+    match station.state {
+        State::Unmatched => "Unmatched",
+        State::Matching { .. } => "Matching",
+        State::Joining { .. } => "Joining",
+        State::Matched => "Matched",
+    }
+}
+
+/// The name of a record's phase, or of its step where it validates.
+pub fn phase(record: &Record) -> &'static str {
+    match record.phase {
+        Phase::Asked => "Asked",
+        Phase::Sounding => "Sounding",
+        Phase::Reported { .. } => "Reported",
+        Phase::Awaiting => "Awaiting",
+        Phase::Validating(step) => named(step),
+    }
+}
+
+/// A message's name without its CM_ or CM_SLAC_.
+pub fn short(kind: Kind) -> &'static str {
+    let name = kind.name();
+    name.strip_prefix("CM_SLAC_").or_else(|| name.strip_prefix("CM_")).unwrap_or(name)
+}
+
 /// The station's table.
 #[derive(Clone)]
 pub struct Counts {
     table: Table,
     validations: Validations,
     spreads: Spreads,
+    runs: Runs,
 }
 
 impl Counts {
@@ -117,7 +146,8 @@ impl Counts {
         }
         let validations = Validations::new(config, &mut table);
         let spreads = Spreads::new(&mut table);
-        Counts { table, validations, spreads }
+        let runs = Runs::new(config, &mut table);
+        Counts { table, validations, spreads, runs }
     }
 
     /// How many rows are reached.
@@ -171,6 +201,7 @@ impl Counts {
         self.passages(event, before, after, outcome);
         self.validations.event(&mut self.table, event, before, after, outcome);
         self.spreads.event(&mut self.table, event, before, after, outcome);
+        self.runs.event(&mut self.table, event, before, outcome);
     }
 
     fn states(&mut self, after: &Station) {

@@ -306,10 +306,10 @@ impl Generator {
         let responses = self.random.pick(&[100, 70, 40], 90);
         let (mut first, mut last) = (VecDeque::new(), Vec::new());
         for car in self.cars.into_iter().take(most) {
-            let mut run = RunId(self.random.octets());
+            let mut run = self.run();
             first.extend(self.arrival(car, run));
             if self.random.chance(10) {
-                run = RunId(self.random.octets());
+                run = self.run();
                 let mut again = self.arrival(car, run);
                 let place = self.random.pick(&[0, 1, 2], 1);
                 again.insert(place, Planned::Query(car));
@@ -323,6 +323,23 @@ impl Generator {
         first.push_back(Planned::Tick(600));
         first.extend(last);
         first
+    }
+
+    /// A run for a request: mostly any, now and then one with a single octet that isn't zero.
+    fn run(&mut self) -> RunId {
+        let mut run = self.random.octets();
+        if self.random.chance(10) {
+            let octet = self.random.below(8);
+            run = [0; 8];
+            run[octet] = 1 + self.random.below(255) as u8;
+        }
+        RunId(run)
+    }
+
+    /// A run that may be empty.
+    fn any_run(&mut self) -> RunId {
+        let (empty, any) = (RunId([0; 8]), self.run());
+        self.random.pick(&[empty, any, any, any, any, any], any)
     }
 
     /// A car's request, start, sounds and profiles.
@@ -381,7 +398,7 @@ impl Generator {
         for _ in 0..self.random.below(5) {
             plan.push_back(Planned::Frame(match self.random.below(8) {
                 0 | 1 => FIRST.send(other, station),
-                2 if step > 1 => Body::MatchReq { run: RunId([7; 8]) }.send(car, station),
+                2 if step > 1 => Body::MatchReq { run: self.any_run() }.send(car, station),
                 _ => self.message_of(car, run),
             }));
         }
@@ -432,9 +449,15 @@ impl Generator {
         let (car, _) = self.random.pick(&cars, (self.cars[0], RunId([0; 8])));
         let ours = self.random.pick(&[station, modem], modem);
         let (first, second) = (FIRST.send(car, station), self.second().broadcast(car));
-        let message = match self.random.below(10) {
+        let empty = Body::ParmReq { run: RunId([0; 8]) };
+        let message = match self.random.below(11) {
             0..=2 => self.random.pick(&[first, second], first),
             3 => self.random.pick(&[FIRST.send(ours, station), FIRST.broadcast(ours)], first),
+            10 => {
+                let any = self.car();
+                let car = self.random.pick(&[car, car, car, any, any, ours], any);
+                empty.broadcast(car)
+            }
             4 => self.stray_message(),
             _ => self.car_only_message(),
         };
@@ -573,7 +596,7 @@ impl Generator {
         if let State::Joining { car: joining, run, .. } = self.station.state {
             match self.random.below(15) {
                 0 => return Body::MatchReq { run }.send(car, station),
-                1 => return Body::MatchReq { run: RunId([7; 8]) }.send(joining, station),
+                1 => return Body::MatchReq { run: self.any_run() }.send(joining, station),
                 2..=6 => return Body::MatchReq { run }.send(joining, station),
                 _ => {}
             }
@@ -587,7 +610,7 @@ impl Generator {
                     _ => {}
                 }
             }
-            return Body::ParmReq { run: RunId(self.random.octets()) }.broadcast(car);
+            return Body::ParmReq { run: self.any_run() }.broadcast(car);
         };
         let (run, heard, profiles) = (record.run, record.heard, u32::from(record.profiles));
         match (record.phase, self.random.below(100)) {
@@ -649,7 +672,7 @@ impl Generator {
         let car = self.car();
         let run = match self.station.record(car) {
             Some(record) if !self.random.chance(20) => record.run,
-            _ => RunId(self.random.octets()),
+            _ => self.any_run(),
         };
         self.message_of(car, run)
     }
@@ -657,8 +680,9 @@ impl Generator {
     /// Any message of that car and run to the station.
     fn message_of(&mut self, car: Address, run: RunId) -> Message {
         let station = self.config.station;
-        match self.random.below(12) {
+        match self.random.below(13) {
             0 => Body::ParmReq { run }.broadcast(car),
+            12 => Body::ParmReq { run: self.any_run() }.broadcast(car),
             1 | 2 => Body::StartAttenChar { run }.broadcast(car),
             3 | 4 => {
                 let count = self.random.pick(&[0, 1, 5, 8, 9, 10, 11, 15, 16, 255], 9);

@@ -13,6 +13,7 @@ mod generate;
 mod messages;
 mod random;
 mod refusal;
+mod run_count;
 mod script;
 mod show;
 mod spread_count;

@@ -38,6 +38,13 @@ impl fmt::Display for Address {
     }
 }
 
+impl RunId {
+    /// Eight zero octets.
+    pub fn is_empty(self) -> bool {
+        self.0 == [0; 8]
+    }
+}
+
 impl Nid {
     /// Below 2^54: the last octet is at most 3F.
     pub fn is_valid(self) -> bool {

@@ -23,6 +23,7 @@ pub enum Refusal {
     ReportsFull,
     OnlyForStations,
     NoSounds,
+    EmptyRun,
 }
 
 impl Refusal {
@@ -32,7 +33,7 @@ impl Refusal {
 }
 
 /// What each number means, from 1 on.
-const WORDS: [&str; 20] = [
+const WORDS: [&str; 21] = [
     "frame too short",
     "frame head wrong",
     "unknown message type",
@@ -53,10 +54,11 @@ const WORDS: [&str; 20] = [
     "ten stations' reports kept",
     "only a station receives this",
     "a report of no sounds",
+    "a request with an empty run",
 ];
 
 /// The numbers that a station gives, and those that a car gives.
-pub const OF_STATIONS: [u32; 17] = [1, 2, 3, 4, 5, 6, 7, 8, 9, 10, 11, 12, 13, 14, 15, 16, 17];
+pub const OF_STATIONS: [u32; 18] = [1, 2, 3, 4, 5, 6, 7, 8, 9, 10, 11, 12, 13, 14, 15, 16, 17, 21];
 pub const OF_CARS: [u32; 15] = [1, 2, 3, 4, 5, 6, 7, 8, 11, 14, 15, 16, 18, 19, 20];
 
 /// A refusal number in words.

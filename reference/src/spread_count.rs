@@ -1,11 +1,10 @@
 //! What a script reaches of the rules on the spread: values that change it, and service queries.
 
-use crate::count::Table;
+use crate::count::{phase, state, Table};
 use crate::messages::{Address, Body, Groups, Message};
 use crate::refusal::Refusal;
 use crate::script::{Event, Outcome};
-use crate::station::{Phase, Record, State, Station};
-use crate::validation_count::named;
+use crate::station::{Record, State, Station};
 
 const SPREAD: &str = "91 spread";
 
@@ -85,11 +84,7 @@ impl Spreads {
 
     /// The rows of a query that was answered.
     fn answered(&self, record: &Record) -> Vec<String> {
-        let mut rows = vec![match record.phase {
-            Phase::Reported { .. } => "query in Reported".into(),
-            Phase::Validating(step) => format!("query in {}", named(step)),
-            phase => format!("query in {phase:?}"),
-        }];
+        let mut rows = vec![format!("query in {}", phase(record))];
         let mut add = |applies: bool, name: &str| rows.extend(applies.then(|| name.to_string()));
         add(
             true,
@@ -130,11 +125,9 @@ impl Spreads {
     /// The rows of a query refused with 11.
     fn refused(&self, car: Address, before: &Station) -> Vec<String> {
         let why = match (before.state, before.record(car)) {
-            (State::Unmatched, _) => " in Unmatched".into(),
-            (State::Joining { .. }, _) => " in Joining".into(),
-            (State::Matched, _) => " in Matched".into(),
-            (State::Matching { .. }, Some(record)) => format!(" in {:?}", record.phase),
+            (State::Matching { .. }, Some(record)) => format!(" in {}", phase(record)),
             (State::Matching { .. }, None) => ", no record".into(),
+            _ => format!(" in {}", state(before)),
         };
         let restarted = self.before.iter().any(|(restarted, ..)| *restarted == car);
         let restarted = restarted.then(|| "query: 11, profiles before a restart".to_string());

@@ -162,6 +162,11 @@ impl Station {
         self.records().find(|record| record.car == car)
     }
 
+    /// Whether every record is held.
+    pub fn is_full(&self) -> bool {
+        self.records.iter().all(Option::is_some)
+    }
+
     fn config(&self) -> Result<Config, Refusal> {
         self.config.ok_or(Refusal::Configuration)
     }
@@ -207,7 +212,7 @@ impl Station {
         Ok(Service { heard: heard.count_ones(), least: *least, greatest: *greatest })
     }
 
-    /// A received frame: "16, 15, reading, 17, 7, 8, then 9 and 10, or 11, 12, 13".
+    /// A received frame: "16, 15, reading, 17, 7, 8, 21, then 9 and 10, or 11, 12, 13".
     pub fn receive(&mut self, frame: &[u8], output: &mut [u8]) -> Answer {
         let config = self.config()?;
         let mut output = Output::lent(output)?;
@@ -236,6 +241,7 @@ impl Station {
         out: &mut Output,
     ) -> Checked {
         match message.body {
+            Body::ParmReq { run } if run.is_empty() => return Err(Refusal::EmptyRun),
             Body::ParmReq { run } => {
                 let place = self.place(car)?;
                 out.send(Body::ParmCnf { run }, config.station, car)?;

@@ -714,6 +714,73 @@ fn the_spread_of_each_group() {
 }
 
 #[test]
+fn an_empty_run_is_refused() {
+    const EMPTY: RunId = RunId([0; 8]);
+    let empty = Body::ParmReq { run: EMPTY };
+    // Reading and writing accept it.
+    let frame = octets("FF FF FF FF FF FF 02 00 00 00 00 01 88 E1 01 64 60", 43);
+    assert_eq!(empty.broadcast(CAR).to_frame(), Ok(frame.clone()));
+    assert_eq!(Message::read(&frame[..29]), Ok(empty.broadcast(CAR)));
+    // 16, 15, reading and 7 come before, and so does 8.
+    let (mut bad, _) = Station::configure(Config { modem: US, ..CONFIG });
+    assert_eq!(bad.receive(&frame, &mut [0; 645]), Err(Refusal::Configuration));
+    let mut bench = Bench::new();
+    assert_eq!(bench.call(644, |station, output| station.receive(&frame, output)), Err(15));
+    assert_eq!(bench.octets(&frame[..28]), Err(1));
+    assert_eq!((bench.car(empty), Bench::joining().car(empty)), (Err(8), Err(8)));
+    let mut matched = Bench::joining();
+    assert!(matched.link_up().is_ok());
+    assert_eq!(matched.car(empty), Err(8));
+    let mut bench = Bench::plugged();
+    for strange in [US, MODEM] {
+        assert_eq!(bench.hear(empty.broadcast(strange)), Err(7));
+    }
+    // A car without a record, with admission open, then with no free record, then closed.
+    assert_eq!(bench.car(empty), Err(21));
+    for last in 2..=6 {
+        assert!(bench.hear(REQUEST.broadcast(address(last))).is_ok());
+    }
+    assert_eq!((bench.car(REQUEST), bench.car(empty)), (Err(10), Err(21)));
+    let mut bench = Bench::plugged();
+    assert_eq!(bench.tick(49_999), NOTHING);
+    assert!(bench.hear(REQUEST.broadcast(OTHER)).is_ok());
+    assert_eq!((bench.tick(1), bench.car(REQUEST), bench.car(empty)), (NOTHING, Err(9), Err(21)));
+    assert_eq!(bench.hear(empty.broadcast(OTHER)), Err(21));
+    // A held record stays as it is, in every phase.
+    let mut asked = Bench::plugged();
+    assert!(asked.car(REQUEST).is_ok());
+    for mut bench in [
+        asked,
+        Bench::sounding(),
+        Bench::reported(),
+        Bench::awaiting(),
+        Bench::ready(),
+        Bench::counting(3),
+        Bench::success(),
+    ] {
+        let before = bench.0.clone();
+        bench.refuses(21, &[empty]);
+        assert_eq!(bench.0, before);
+    }
+    // Other messages with such a run are of another run.
+    let others = [
+        Body::StartAttenChar { run: EMPTY },
+        Body::MnbcSound { run: EMPTY, count: 0, random: [0; 16] },
+        Body::AttenCharRsp { run: EMPTY },
+        Body::MatchReq { run: EMPTY },
+    ];
+    Bench::sounding().refuses(11, &others);
+    // One octet that isn't zero is enough.
+    for octet in 0..8 {
+        let mut run = [0; 8];
+        run[octet] = 1;
+        let run = RunId(run);
+        let reply = replies(&[Body::ParmCnf { run }.send(US, CAR)]);
+        assert_eq!(Bench::sounding().car(Body::ParmReq { run }), reply);
+    }
+}
+
+#[test]
 fn a_query_in_words() {
     let mut bench = Bench::sounding();
     assert_eq!((bench.profile(CAR, 12), bench.profile(CAR, 15)), (NOTHING, NOTHING));
@@ -828,8 +895,8 @@ fn random_scripts_come_from_their_seed_and_compare_equal() {
 /// Seeds and how many events of them. The first is covered, and reaches every row but 16 and those
 /// of a station that doesn't require validation; the second is covered and reaches these; the
 /// third has a bad configuration.
-const FULL: (u64, u32) = (22, 2_600);
-const EXEMPT: (u64, u32) = (14, 700);
+const FULL: (u64, u32) = (51, 2_600);
+const EXEMPT: (u64, u32) = (38, 700);
 const BAD: (u64, u32) = (22, 250);
 
 fn random_script(seed: u64, events: u32) -> Vec<u8> {

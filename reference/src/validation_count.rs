@@ -1,6 +1,6 @@
 //! What a script reaches of the rules on validation: requests, toggles, windows and their ends.
 
-use crate::count::{end, Table, ENDS};
+use crate::count::{end, phase, short, state, Table, ENDS};
 use crate::messages::{Address, Body, Kind, Message, FAILURE, NOT_REQUIRED, READY};
 use crate::refusal::Refusal;
 use crate::script::{Event, Outcome};
@@ -200,14 +200,14 @@ impl Validations {
     fn refused(&self, frame: &[u8], before: &Station, refusal: Refusal) -> Vec<String> {
         let Some(kind) = Kind::of(frame) else { return Vec::new() };
         let number = refusal.number();
-        let short = match kind {
+        let name = match kind {
             Kind::ValidateReq => "REQ",
             Kind::ValidateCnf => "CNF",
-            _ => kind.name().trim_start_matches("CM_").trim_start_matches("SLAC_"),
+            _ => short(kind),
         };
         let Ok(message) = Message::read(frame) else {
             return match kind {
-                Kind::ValidateReq | Kind::ValidateCnf => unread(short, kind, frame, number),
+                Kind::ValidateReq | Kind::ValidateCnf => unread(name, kind, frame, number),
                 _ => Vec::new(),
             };
         };
@@ -224,7 +224,7 @@ impl Validations {
             (Body::ValidateCnf { .. }, _) => vec![format!("CNF: {number}")],
             (_, Refusal::Phase) => {
                 let step = record.and_then(step);
-                step.map(|step| format!("{short}: 12 in {step}")).into_iter().collect()
+                step.map(|step| format!("{name}: 12 in {step}")).into_iter().collect()
             }
             (Body::MatchReq { .. }, Refusal::NoRecord)
                 if record.and_then(step) == Some("success") =>
@@ -249,20 +249,8 @@ impl Validations {
             Refusal::NotOurs if car == self.config.station => "from us",
             Refusal::NotOurs if car == self.config.modem => "from our modem",
             Refusal::NotOurs => "to another",
-            Refusal::State => match before.state {
-                State::Unmatched => "Unmatched",
-                State::Matching { .. } => "Matching",
-                State::Joining { .. } => "Joining",
-                State::Matched => "Matched",
-            },
-            Refusal::Phase => match before.record(car).map(|record| record.phase) {
-                None => "no record",
-                Some(Phase::Asked) => "Asked",
-                Some(Phase::Sounding) => "Sounding",
-                Some(Phase::Reported { .. }) => "Reported",
-                Some(Phase::Awaiting) => "Awaiting",
-                Some(Phase::Validating(step)) => named(step),
-            },
+            Refusal::State => state(before),
+            Refusal::Phase => before.record(car).map_or("no record", phase),
             _ => return vec![format!("{which}: {number}")],
         };
         let mut rows = match refusal {
@@ -277,7 +265,7 @@ impl Validations {
 }
 
 /// The rows of a frame that cannot be read: the number, and by which part of it.
-fn unread(short: &str, kind: Kind, frame: &[u8], number: u32) -> Vec<String> {
+fn unread(name: &str, kind: Kind, frame: &[u8], number: u32) -> Vec<String> {
     let octet = |at: usize| frame.get(at).copied().unwrap_or(0);
     let address = |at: usize| Address(std::array::from_fn(|place| octet(at + place)));
     let is_request = kind == Kind::ValidateReq;
@@ -297,7 +285,7 @@ fn unread(short: &str, kind: Kind, frame: &[u8], number: u32) -> Vec<String> {
         _ => &[],
     };
     let parts = parts.iter().filter(|(applies, _)| *applies);
-    parts.map(|(_, part)| format!("{short}: {number}{part}")).collect()
+    parts.map(|(_, part)| format!("{name}: {number}{part}")).collect()
 }
 
 /// A tick that was taken.
