@@ -33,7 +33,7 @@ extern "C" {
 /* The version of this header. */
 #define LAHZAVAR_MAJOR 0
 #define LAHZAVAR_MINOR 5
-#define LAHZAVAR_PATCH 0
+#define LAHZAVAR_PATCH 1
 /* The same as one number, which lahzavar_version() gives of the library. */
 #define LAHZAVAR_VERSION (65536u * LAHZAVAR_MAJOR + 256u * LAHZAVAR_MINOR + LAHZAVAR_PATCH)
 
@@ -82,10 +82,11 @@ enum lahzavar_refusal {
     LAHZAVAR_ONLY_FOR_CARS = 17,     /* a message that only a car receives */
     LAHZAVAR_REPORTS_FULL = 18,      /* a report, while those of LAHZAVAR_STATIONS other stations are kept */
     LAHZAVAR_ONLY_FOR_STATIONS = 19, /* a message that only a station receives */
-    LAHZAVAR_NO_SOUNDS = 20          /* a report of no sounds */
+    LAHZAVAR_NO_SOUNDS = 20,         /* a report of no sounds */
+    LAHZAVAR_EMPTY_RUN = 21          /* a request whose run is eight zero octets */
 };
 /* The greatest of these numbers. */
-#define LAHZAVAR_LAST_REFUSAL LAHZAVAR_NO_SOUNDS
+#define LAHZAVAR_LAST_REFUSAL LAHZAVAR_EMPTY_RUN
 
 /* A refusal as a sentence, for a log; 0 and numbers of a later library have one too. */
 static inline const char *lahzavar_refusal_text(uint32_t refusal)
@@ -133,6 +134,8 @@ static inline const char *lahzavar_refusal_text(uint32_t refusal)
         return "only a station receives this message";
     case LAHZAVAR_NO_SOUNDS:
         return "the report tells of no sounds";
+    case LAHZAVAR_EMPTY_RUN:
+        return "the request's run is empty, eight zero octets";
     default:
         return "a refusal that this version does not know";
     }

@@ -129,13 +129,19 @@ static void refusals_of_matching(void)
 {
     unsigned last;
     struct car car = car_at(LAHZAVAR_RECORDS + 1);
+    struct car empty = first;
+    memset(empty.run, 0, sizeof empty.run);
     plug_in();
+    same("empty run", hear(write_parm_req(frame, &empty)).refusal, LAHZAVAR_EMPTY_RUN);
     same("no record", hear(write_start(frame, &first)).refusal, LAHZAVAR_NO_RECORD);
     for (last = 1; last <= LAHZAVAR_RECORDS; last++) {
         struct car held = car_at(last);
         same("a record", hear(write_parm_req(frame, &held)).refusal, LAHZAVAR_ACCEPTED);
     }
     same("records full", hear(write_parm_req(frame, &car)).refusal, LAHZAVAR_RECORDS_FULL);
+    same("empty run of a car with a record", hear(write_parm_req(frame, &empty)).refusal, LAHZAVAR_EMPTY_RUN);
+    memset(car.run, 0, sizeof car.run);
+    same("empty run, records full", hear(write_parm_req(frame, &car)).refusal, LAHZAVAR_EMPTY_RUN);
     same("wrong phase", hear(write_match_req(frame, &first, us)).refusal, LAHZAVAR_WRONG_PHASE);
     same("start", hear(write_start(frame, &first)).refusal, LAHZAVAR_ACCEPTED);
     same("sound 9", hear(write_sound(frame, &first, 9)).refusal, LAHZAVAR_ACCEPTED);

@@ -76,12 +76,14 @@ pub enum Refusal {
     OnlyForStations,
     /// 20: a report of no sounds.
     NoSounds,
+    /// 21: a request whose run is eight zero octets.
+    EmptyRun,
     /// A number of a later library, which this wrapper does not know.
     Other(u32),
 }
 
 /// Every refusal that this wrapper knows, from number 1 on, with its sentence.
-const REFUSALS: [(Refusal, &str); 20] = [
+const REFUSALS: [(Refusal, &str); 21] = [
     (Refusal::TooShort, "the frame ends before its payload does"),
     (
         Refusal::BadHead,
@@ -111,6 +113,7 @@ const REFUSALS: [(Refusal, &str); 20] = [
     (Refusal::ReportsFull, "the reports of as many other stations are kept as there is room for"),
     (Refusal::OnlyForStations, "only a station receives this message"),
     (Refusal::NoSounds, "the report tells of no sounds"),
+    (Refusal::EmptyRun, "the request's run is empty, eight zero octets"),
 ];
 
 impl Refusal {

@@ -181,6 +181,18 @@ fn the_spread_lasts_until_the_match() {
 }
 
 #[test]
+fn an_empty_run_is_refused_and_leaves_the_record() {
+    let (mut bench, ours) = (Bench::plugged(), car(1));
+    bench.sounded(&ours, 2);
+    for address in [ours.address, car(2).address] {
+        let empty = Car { address, run: [0; 8] };
+        assert_eq!(bench.hear(&empty.parm_req()), Err(Refusal::EmptyRun));
+    }
+    assert_eq!(bench.station.records_held(), 1);
+    assert_eq!(bench.station.query(ours.address), Ok(even(2, 10, 11)));
+}
+
+#[test]
 fn reports_of_one_tick_stand_back_to_back() {
     let mut bench = Bench::plugged();
     let cars: Vec<u8> = (1..).take(RECORDS).collect();

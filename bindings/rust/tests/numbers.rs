@@ -29,19 +29,19 @@ fn indications_states_and_pilots() {
 #[test]
 fn every_refusal_has_its_number() {
     assert_eq!(Refusal::try_from(0), Err(UnknownNumber(0)));
-    for number in (1..=21).chain([u32::MAX]) {
+    for number in (1..=22).chain([u32::MAX]) {
         let refusal = Refusal::try_from(number).unwrap();
         assert_eq!((refusal.number(), u32::from(refusal)), (number, number));
-        assert_eq!(matches!(refusal, Refusal::Other(_)), number > 20);
+        assert_eq!(matches!(refusal, Refusal::Other(_)), number > 21);
     }
 }
 
 #[test]
 fn every_refusal_has_its_sentence() {
     let texts: HashSet<&str> =
-        (1..=21).map(|number| Refusal::try_from(number).unwrap().text()).collect();
-    assert_eq!(texts.len(), 21);
-    assert_eq!(Refusal::Other(21).text(), Refusal::Other(99).text());
+        (1..=22).map(|number| Refusal::try_from(number).unwrap().text()).collect();
+    assert_eq!(texts.len(), 22);
+    assert_eq!(Refusal::Other(22).text(), Refusal::Other(99).text());
     assert_eq!(
         Refusal::NotForUs.to_string(),
         "refused with 7: the frame is for another receiver, from another modem, or from ourselves"

@@ -73,7 +73,7 @@ pub fn run_frames(station: &mut Station, input: &[u8]) {
 
 /// How often each refusal comes, and a sum that the library must give too.
 fn check(input: &[u8]) {
-    let (mut sum, mut counts) = (0xCBF2_9CE4_8422_2325_u64, [0; 18]);
+    let (mut sum, mut counts) = (0xCBF2_9CE4_8422_2325_u64, [0; 22]);
     let mut add = |value: u64| sum = (sum ^ value).wrapping_mul(0x100_0000_01B3);
     each_frame(&mut plugged(), input, |answer, out| {
         let refusal = answer.map_or_else(|refusal| refusal.number(), |_| 0);
