@@ -38,7 +38,7 @@ extern "C" {
 #define LAHZAVAR_VERSION (65536u * LAHZAVAR_MAJOR + 256u * LAHZAVAR_MINOR + LAHZAVAR_PATCH)
 
 /* The most cars that are in matching at once. */
-#define LAHZAVAR_RECORDS 5
+#define LAHZAVAR_RECORDS 16
 /* The carrier groups of an attenuation profile. */
 #define LAHZAVAR_GROUPS 58
 /* The octets of one report, CM_ATTEN_CHAR.IND. */

@@ -21,7 +21,7 @@
 #include <stdio.h>
 #include <stdlib.h>
 
-#define BAYS 16u
+#define BAYS 24u /* more than a station has records */
 #define QUEUE 1024u /* frames under way, a power of two */
 #define NEVER UINT32_MAX
 #define VARIATION 3u        /* the most that a group's value is over the attenuation; all ones in binary */
@@ -763,16 +763,16 @@ int main(int count, char **arguments)
     static const struct scenario scenarios[] = {
         {10, {1, 6}, {12, 40}, IN_GROUPS, 0, OWN_BAY_AT_FIRST_START},
         {10, {1, 6}, {12, 40}, ONE_BY_ONE, 0, OWN_BAY_AT_FIRST_START},
-        {16, {1, 16}, {20, 40}, AT_ANY_TIME, 0, OWN_BAY},
-        {16, {1, 16}, {20, 40}, AT_ANY_TIME, 5, OWN_BAY},
-        {16, {1, 16}, {20, 40}, AT_ANY_TIME, 20, OWN_BAY},
-        {16, {1, 16}, {20, 40}, ALL_AT_ONCE, 0, OWN_BAY},
-        {16, {1, 16}, {20, 40}, ALL_AT_ONCE, 5, OWN_BAY},
-        {16, {1, 16}, {20, 40}, ALL_AT_ONCE, 20, OWN_BAY},
+        {BAYS, {1, 16}, {20, 40}, AT_ANY_TIME, 0, OWN_BAY},
+        {BAYS, {1, 16}, {20, 40}, AT_ANY_TIME, 5, OWN_BAY},
+        {BAYS, {1, 16}, {20, 40}, AT_ANY_TIME, 20, OWN_BAY},
+        {BAYS, {1, 16}, {20, 40}, ALL_AT_ONCE, 0, OWN_BAY},
+        {BAYS, {1, 16}, {20, 40}, ALL_AT_ONCE, 5, OWN_BAY},
+        {BAYS, {1, 16}, {20, 40}, ALL_AT_ONCE, 20, OWN_BAY},
         {10, {1, 1}, {7, 12}, ONE_BY_ONE, 0, ANY_BAY},
         {10, {1, 1}, {7, 12}, ONE_BY_ONE, 5, ANY_BAY},
         {10, {1, 1}, {7, 12}, ONE_BY_ONE, 20, ANY_BAY},
-        {10, {1, 6}, {12, 40}, TOO_MANY, 0, ANY_BAY},
+        {BAYS, {1, 6}, {12, 40}, TOO_MANY, 0, ANY_BAY},
     };
     static struct line line;
     uint64_t seeds = count > 1 ? strtoull(arguments[1], NULL, 10) : 1;

@@ -13,9 +13,9 @@
 #include <string.h>
 #include <ucontext.h>
 
-#define STACK 65536u
+#define STACK 262144u
 #define MARGIN 512u
-#define STATE_MOST 4096u
+#define STATE_MOST (sizeof(struct lahzavar_station) + sizeof(struct lahzavar_car))
 
 /* A figure of the table: what is called, and the most stack that it took so far. */
 struct figure {

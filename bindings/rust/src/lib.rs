@@ -121,7 +121,7 @@ pub use spread::Spread;
 pub use station::Station;
 
 /// The most cars that are in matching at once.
-pub const RECORDS: usize = 5;
+pub const RECORDS: usize = 16;
 /// The carrier groups of an attenuation profile.
 pub const GROUPS: usize = 58;
 /// The octets of one report, `CM_ATTEN_CHAR.IND`.

@@ -56,9 +56,9 @@ failureResult = 3
 abbrev pub notRequiredResult : ℕ
 notRequiredResult = 4
 
--- how many records a station has: C_EVSE_match_parallel
+-- how many records a station has: at least C_EVSE_match_parallel
 abbrev pub recordCount : ℕ
-recordCount = 5
+recordCount = 16
 
 -- the least output of a frame or tick call: a report of every record
 abbrev pub leastOutput : ℕ

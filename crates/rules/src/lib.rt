@@ -64,8 +64,8 @@ pub const FAILURE_RESULT: u8 = 3;
 // Validation is not required.
 pub const NOT_REQUIRED_RESULT: u8 = 4;
 
-// How many runs are matched side by side: C_EVSE_match_parallel.
-pub const RECORDS: usize = 5;
+// How many runs are matched side by side: at least C_EVSE_match_parallel.
+pub const RECORDS: usize = 16;
 
 // How many octets a report takes.
 pub const REPORT_OCTETS: usize = 129;

@@ -20,7 +20,7 @@ use std::time::Instant;
 const US: Address = Address([2, 0, 0, 0, 0, 0xAA]);
 const MODEM: Address = Address([2, 0, 0, 0, 0, 0xBB]);
 /// The records of the reference station, and the room for a report to each.
-const RECORDS: u8 = 5;
+const RECORDS: u8 = 16;
 const ROOM: usize = 129 * RECORDS as usize;
 const TICKS: usize = 1001;
 
