@@ -1123,7 +1123,7 @@ impl Bay {
             frames.push(profile.send(self.modem, self.address).to_frame().unwrap());
         }
         let answer = |frame: Vec<u8>| {
-            let happened = script::Event::Frame { octets: frame, room: 645 };
+            let happened = script::Event::Frame { octets: frame, room: station::LEAST_OUTPUT };
             happened.happen(&mut self.station).map_or(Vec::new(), |(_, octets)| octets)
         };
         frames.into_iter().map(answer).filter(|octets| !octets.is_empty()).collect()
@@ -1147,7 +1147,10 @@ fn the_car_and_second_stations_meet() {
                 }
             }
             for bay in &mut bays {
-                let event = script::Event::Tick { reading: bay.station.reading + tick, room: 645 };
+                let event = script::Event::Tick {
+                    reading: bay.station.reading + tick,
+                    room: station::LEAST_OUTPUT,
+                };
                 event.happen(&mut bay.station).unwrap();
             }
             let (frame, indication) = bench.tick(tick).unwrap();

@@ -5,7 +5,7 @@ use crate::refusal::{self, Refusal};
 use crate::run_count::Runs;
 use crate::script::{Event, Outcome};
 use crate::spread_count::Spreads;
-use crate::station::{Config, Indication, Phase, Record, State, Station};
+use crate::station::{Config, Indication, Phase, Record, State, Station, RECORDS};
 use crate::validation_count::{named, Validations};
 use std::cmp::Ordering;
 use std::collections::BTreeMap;
@@ -144,6 +144,10 @@ impl Counts {
         for name in PASSAGES {
             row("7 passage", name);
         }
+        for records in 0..=RECORDS {
+            row("3 after the event", &held(records));
+            row("7 passage", &reports(records));
+        }
         let validations = Validations::new(config, &mut table);
         let spreads = Spreads::new(&mut table);
         let runs = Runs::new(config, &mut table);
@@ -214,7 +218,7 @@ impl Counts {
         };
         self.add("3 after the event", state);
         self.add("3 after the event", &format!("pilot {:?}", after.pilot));
-        self.add("3 after the event", &format!("records held: {}", after.records().count()));
+        self.add("3 after the event", &held(after.records().count()));
         for record in after.records() {
             let phase = match record.phase {
                 Phase::Reported { retries } => format!("record Reported, {retries} retries"),
@@ -247,7 +251,7 @@ impl Counts {
                 }
                 let (messages, _) = Message::read_all(octets);
                 let is_report = |message: &&Message| message.body.kind() == Kind::AttenChar;
-                format!("tick with {} reports", messages.iter().filter(is_report).count())
+                reports(messages.iter().filter(is_report).count())
             }
             _ => return,
         };
@@ -255,19 +259,25 @@ impl Counts {
     }
 }
 
-const STATES: [&str; 26] = [
+fn held(records: usize) -> String {
+    format!("records held: {records:>2}")
+}
+
+fn reports(count: usize) -> String {
+    format!("tick with {count:>2} reports")
+}
+
+const STATES: [&str; 20] = [
     "Unmatched", "Matching, admission open", "Matching, admission closed", "Joining", "Matched",
     "pilot A", "pilot B", "pilot C", "pilot D", "pilot E", "pilot F", "record Asked",
     "record Sounding", "record Reported, 0 retries", "record Reported, 1 retries",
     "record Reported, 2 retries", "record Awaiting", "record Validating, ready",
-    "record Validating, counting", "record Validating, success", "records held: 0",
-    "records held: 1", "records held: 2", "records held: 3", "records held: 4", "records held: 5",
+    "record Validating, counting", "record Validating, success",
 ];
 
-const PASSAGES: [&str; 11] = [
+const PASSAGES: [&str; 5] = [
     "restart, admission open", "restart, admission closed", "ten profiles", "MATCH.CNF again",
-    "the clock wraps", "tick with 0 reports", "tick with 1 reports", "tick with 2 reports",
-    "tick with 3 reports", "tick with 4 reports", "tick with 5 reports",
+    "the clock wraps",
 ];
 
 fn refused(number: u32) -> String {

@@ -3,8 +3,8 @@
 use crate::count::Counts;
 use crate::messages::{Address, Body, Message, Nid, Nmk, RunId};
 use crate::random::Random;
-use crate::script::{write_head, Event};
-use crate::station::{Config, Phase, Pilot, Record, State, Station, Step};
+use crate::script::{write_head, Event, MOST};
+use crate::station::{Config, Phase, Pilot, Record, State, Station, Step, LEAST_OUTPUT, RECORDS};
 use std::collections::VecDeque;
 use std::io::{self, Write};
 
@@ -39,18 +39,25 @@ const FIRST: Body = Body::ValidateReq { timer: 0 };
 /// Timers of a second validate request, mostly small ones.
 const TIMERS: [u8; 14] = [0, 0, 0, 1, 1, 2, 3, 4, 5, 9, 10, 99, 254, 255];
 
+/// How many cars there are: more than there are records.
+const CARS: usize = RECORDS + 4;
+
 /// Makes events, steered by a station of its own.
 #[derive(Clone)]
 struct Generator {
     random: Random,
     config: Config,
     station: Station,
-    cars: [Address; 8],
+    cars: [Address; CARS],
     mood: Mood,
     /// The last reading sent, also one that was refused.
     clock: u32,
     /// What comes next, mostly.
     plan: VecDeque<Planned>,
+    /// How many cars come at once, in the next larger waves.
+    waves: Vec<usize>,
+    /// Whether a validation had more toggles than are counted; one in a script is enough.
+    many_done: bool,
 }
 
 /// An event that is planned.
@@ -68,8 +75,8 @@ enum Planned {
 }
 
 /// `cover` tries so many ways on, each of so many events at most.
-const TRIES: usize = 16;
-const STRETCH: usize = 24;
+const TRIES: usize = 48;
+const STRETCH: usize = 64;
 
 /// `generate SEED EVENTS`.
 pub fn generate(seed: u64, events: u32, script: &mut impl Write) -> io::Result<()> {
@@ -132,10 +139,10 @@ impl Generator {
             nmk: Nmk(random.octets()),
             exempt: random.chance(20),
         };
-        let cars = [1, 2, 3, 4, 5, 6, 7, 8].map(|last| random.unicast(last));
+        let cars = std::array::from_fn(|place| random.unicast(1 + place as u8));
         let (station, _) = Station::configure(config);
         let mood = Mood {
-            cars: 8,
+            cars: CARS,
             pace: 20,
             limits: 5,
             damage: 5,
@@ -146,7 +153,9 @@ impl Generator {
             hasty: false,
             focus: 0,
         };
-        Generator { random, config, station, cars, mood, clock: 0, plan: VecDeque::new() }
+        let (plan, waves) = (VecDeque::new(), Vec::new());
+        let (clock, many_done) = (0, false);
+        Generator { random, config, station, cars, mood, clock, plan, waves, many_done }
     }
 
     /// The configuration that goes into the script: now and then a bad one.
@@ -170,6 +179,7 @@ impl Generator {
         let share = match self.validating().map(|record| record.phase) {
             Some(Phase::Validating(Step::Counting { toggles, .. })) => match self.station.pilot {
                 _ if self.mood.many => {
+                    self.many_done = toggles == 255;
                     self.mood.many = toggles < 255 || self.random.chance(75);
                     99
                 }
@@ -231,11 +241,13 @@ impl Generator {
         };
         if to.is_plugged() {
             let (few, late) = (self.random.chance(25), self.random.chance(30));
-            let many = self.random.chance(4);
+            let many = !self.many_done && self.random.chance(10);
             let doubts = self.random.pick(&[0, 30, 90, 90, 90], 20);
+            let most = self.random.pick(&[8, 8, CARS], CARS);
+            let cars = 1 + self.random.below(if few || late { 3 } else { most });
             self.plan.clear();
             self.mood = Mood {
-                cars: if few || late { 1 + self.random.below(3) } else { 1 + self.random.below(8) },
+                cars,
                 pace: self.random.pick(&[3, 10, 40, 150], 10),
                 limits: self.random.pick(&[1, 2, 5, 25], 2),
                 damage: self.random.pick(&[0, 3, 8, 20], 5),
@@ -267,10 +279,12 @@ impl Generator {
         if !self.mood.hasty || self.is_late() {
             return None;
         }
+        let is_wave = self.plan.len() > 12;
         match self.random.below(100) {
-            0..=7 => return None,
+            0..=7 if !is_wave => return None,
             8..=17 => return Some(self.odd_frame()),
             18..=20 => return Some(self.query()),
+            21..=45 if self.station.is_full() => return Some(self.odd_frame()),
             _ => {}
         }
         if self.plan.is_empty() {
@@ -285,7 +299,8 @@ impl Generator {
         Some(match self.plan.pop_front()? {
             Planned::Frame(message) => {
                 let octets = message.to_frame().unwrap_or_default();
-                Event::Frame { octets, room: self.room() }
+                let more = self.random.pick(&[0, 0, 0, 1, MOST - LEAST_OUTPUT], 0);
+                Event::Frame { octets, room: LEAST_OUTPUT + more }
             }
             Planned::Tick(elapsed) => self.tick_by(elapsed),
             Planned::End(car, more) => {
@@ -302,15 +317,19 @@ impl Generator {
     /// Some cars from their request to the response, mostly with a profile each.
     fn arrivals(&mut self) -> VecDeque<Planned> {
         let Config { station, .. } = self.config;
-        let most = self.random.pick(&[1, 2, 3, 3, 5, 5], 1).min(self.mood.cars);
+        let most = match self.mood.late || self.random.chance(70) {
+            true => self.random.pick(&[1, 2, 3, 3], 1).min(self.mood.cars),
+            false => self.wave(),
+        };
+        let is_small = most < 4;
         let responses = self.random.pick(&[100, 70, 40], 90);
         let (mut first, mut last) = (VecDeque::new(), Vec::new());
         for car in self.cars.into_iter().take(most) {
             let mut run = self.run();
-            first.extend(self.arrival(car, run));
-            if self.random.chance(10) {
+            first.extend(self.arrival(car, run, is_small));
+            if self.random.chance(if is_small { 10 } else { 1 }) {
                 run = self.run();
-                let mut again = self.arrival(car, run);
+                let mut again = self.arrival(car, run, is_small);
                 let place = self.random.pick(&[0, 1, 2], 1);
                 again.insert(place, Planned::Query(car));
                 first.extend(again);
@@ -323,6 +342,15 @@ impl Generator {
         first.push_back(Planned::Tick(600));
         first.extend(last);
         first
+    }
+
+    /// How many cars come in the next larger wave: each number comes once before one comes again.
+    fn wave(&mut self) -> usize {
+        if self.waves.is_empty() {
+            self.waves = (4..=RECORDS).collect();
+        }
+        let place = self.random.below(self.waves.len());
+        self.waves.swap_remove(place)
     }
 
     /// A run for a request: mostly any, now and then one with a single octet that isn't zero.
@@ -342,18 +370,19 @@ impl Generator {
         self.random.pick(&[empty, any, any, any, any, any], any)
     }
 
-    /// A car's request, start, sounds and profiles.
-    fn arrival(&mut self, car: Address, run: RunId) -> Vec<Planned> {
+    /// A car's request, start, sounds and profiles; a long one may have them all.
+    fn arrival(&mut self, car: Address, run: RunId, is_long: bool) -> Vec<Planned> {
         let Config { station, modem, .. } = self.config;
         let opening = [Body::ParmReq { run }, Body::StartAttenChar { run }];
         let mut frames: Vec<Message> = opening.map(|body| body.broadcast(car)).into();
-        let (all, few) = (self.random.chance(3), self.random.pick(&[0, 0, 1], 0));
+        let (all, few) = (is_long && self.random.chance(5), self.random.pick(&[0, 0, 1], 0));
         for count in 0..if all { 10 } else { few } {
             let count = if all { count } else { self.random.below(12) as u8 };
             let random = self.random.octets();
             frames.push(Body::MnbcSound { run, count, random }.broadcast(car));
         }
-        let profiles = if self.random.chance(4) { 10 } else { 1 + self.random.below(8) / 6 };
+        let ten = is_long && self.random.chance(5);
+        let profiles = if ten { 10 } else { 1 + self.random.below(8) / 6 };
         frames.extend((0..profiles).map(|_| self.profile(car).send(modem, station)));
         let query = (profiles == 10).then_some(Planned::Query(car));
         frames.into_iter().map(Planned::Frame).chain(query).collect()
@@ -450,7 +479,13 @@ impl Generator {
         let ours = self.random.pick(&[station, modem], modem);
         let (first, second) = (FIRST.send(car, station), self.second().broadcast(car));
         let empty = Body::ParmReq { run: RunId([0; 8]) };
+        let newcomer = self.cars.into_iter().find(|car| self.station.record(*car).is_none());
         let message = match self.random.below(11) {
+            0..=3 if self.station.is_full() && newcomer.is_some() => {
+                let (any, run) = (self.any_run(), RunId([0; 8]));
+                let run = self.random.pick(&[any, any, run], any);
+                Body::ParmReq { run }.broadcast(newcomer.unwrap_or(car))
+            }
             0..=2 => self.random.pick(&[first, second], first),
             3 => self.random.pick(&[FIRST.send(ours, station), FIRST.broadcast(ours)], first),
             10 => {
@@ -477,7 +512,8 @@ impl Generator {
             12 => octets[..6].fill(wrong),
             _ => {}
         }
-        let room = if self.random.chance(15) { self.random.below(645) } else { self.room() };
+        let room =
+            if self.random.chance(15) { self.random.below(LEAST_OUTPUT) } else { self.room() };
         Event::Frame { octets, room }
     }
 
@@ -557,11 +593,11 @@ impl Generator {
     fn room(&mut self) -> usize {
         match self.random.below(100) {
             0 => 0,
-            1 => 644,
-            2 | 3 => self.random.below(645),
-            4..=9 => 645 + self.random.below(3452),
-            10..=12 => 4096,
-            _ => 645,
+            1 => LEAST_OUTPUT - 1,
+            2 | 3 => self.random.below(LEAST_OUTPUT),
+            4..=9 => LEAST_OUTPUT + self.random.below(MOST + 1 - LEAST_OUTPUT),
+            10..=12 => MOST,
+            _ => LEAST_OUTPUT,
         }
     }
 
@@ -748,11 +784,11 @@ pub fn demo(script: &mut impl Write) -> io::Result<()> {
     let mut pass = |messages: &[Message], pilot: Option<Pilot>, time: u32| {
         for message in messages {
             let octets = message.to_frame().unwrap_or_default();
-            events.push(Event::Frame { octets, room: 645 });
+            events.push(Event::Frame { octets, room: LEAST_OUTPUT });
         }
         events.extend(pilot.map(|to| Event::Pilot { to, reading: clock }));
         clock += time;
-        events.push(Event::Tick { reading: clock, room: 645 });
+        events.push(Event::Tick { reading: clock, room: LEAST_OUTPUT });
     };
     let mut hear = |messages: &[Message]| pass(messages, None, 20);
     hear(&[

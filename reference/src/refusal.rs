@@ -43,7 +43,7 @@ const WORDS: [&str; 21] = [
     "not for us",
     "the state takes no such event",
     "admission closed",
-    "five records held",
+    "all records held by other cars",
     "no such record, run, profile or station",
     "record in another phase",
     "sound count over 9 or heard already",

@@ -17,8 +17,10 @@ const JOINING: u32 = 12_000;
 const RETRIES: u8 = 2;
 const PROFILES: u16 = 10;
 const LONGEST_GAP: u32 = 60_000;
-/// Five reports of 129 octets.
-const LEAST_OUTPUT: usize = 645;
+/// How many records stand side by side.
+pub const RECORDS: usize = 16;
+/// A report of 129 octets for each record.
+pub const LEAST_OUTPUT: usize = 129 * RECORDS;
 
 #[derive(Clone, Copy, Debug, PartialEq, Eq)]
 pub struct Config {
@@ -136,7 +138,7 @@ pub struct Station {
     pub pilot: Pilot,
     /// The last clock reading taken.
     pub reading: u32,
-    records: [Option<Record>; 5],
+    records: [Option<Record>; RECORDS],
 }
 
 impl Station {
@@ -147,7 +149,7 @@ impl Station {
             state: State::Unmatched,
             pilot: Pilot::A,
             reading: 0,
-            records: Default::default(),
+            records: [const { None }; RECORDS],
         };
         let answer = station.config().map(|_| ());
         (station, answer)
@@ -181,7 +183,7 @@ impl Station {
             self.reading = reading;
         } else if !from.is_plugged() {
             self.state = State::Matching { admission: ADMISSION };
-            self.records = Default::default();
+            self.free_all();
             self.reading = reading;
         } else {
             self.records.iter_mut().flatten().for_each(|record| record.toggle(from, to));
@@ -285,7 +287,7 @@ impl Station {
                 };
                 out.send(config.match_cnf(run), config.station, car)?;
                 self.state = State::Joining { left: JOINING, car, run };
-                self.records = Default::default();
+                self.free_all();
             }
             // "The destination alone tells the two requests apart."
             Body::ValidateReq { timer } => match message.destination {
@@ -340,13 +342,12 @@ impl Station {
         match &mut self.state {
             State::Unmatched | State::Matched => {}
             State::Matching { admission } => {
-                let mut confirmations = Vec::new();
-                for place in &mut self.records {
-                    let confirmation = run_down(place, elapsed, self.pilot, config, &mut output)?;
-                    confirmations.extend(confirmation);
+                let mut confirmations = [None; RECORDS];
+                for (place, confirmation) in self.records.iter_mut().zip(&mut confirmations) {
+                    *confirmation = run_down(place, elapsed, self.pilot, config, &mut output)?;
                 }
-                for (car, body) in confirmations {
-                    output.send(body, config.station, car)?;
+                for (car, toggles, result) in confirmations.into_iter().flatten() {
+                    output.send(Body::ValidateCnf { toggles, result }, config.station, car)?;
                 }
                 *admission = admission.saturating_sub(elapsed);
                 if *admission == 0 && self.records().next().is_none() {
@@ -361,11 +362,15 @@ impl Station {
 
     /// Unmatched with the records free; "no link" if it was Matching or Joining.
     fn unmatch(&mut self) -> Option<Indication> {
-        self.records = Default::default();
+        self.free_all();
         match std::mem::replace(&mut self.state, State::Unmatched) {
             State::Matching { .. } | State::Joining { .. } => Some(Indication::NoLink),
             State::Unmatched | State::Matched => None,
         }
+    }
+
+    fn free_all(&mut self) {
+        self.records.iter_mut().for_each(|place| *place = None);
     }
 
     /// The car's record; else 11.
@@ -484,8 +489,8 @@ impl Record {
     }
 }
 
-/// A confirmation that a tick sends, and to whom.
-type Confirmation = (Address, Body);
+/// A confirmation that a tick sends: to whom, with which toggles and result.
+type Confirmation = (Address, u8, u8);
 
 /// A tick for one record: "a time fires when remaining is at most elapsed; the excess is dropped,
 /// one firing per record per tick. Otherwise the elapsed is taken off." A report is sent at once,
@@ -503,7 +508,7 @@ fn run_down(
         return Ok(None);
     }
     let car = record.car;
-    let confirm = |toggles, result| Some((car, Body::ValidateCnf { toggles, result }));
+    let confirm = |toggles, result| Some((car, toggles, result));
     let retries = match record.phase {
         Phase::Sounding if record.profiles > 0 => RETRIES,
         Phase::Reported { retries } if retries > 0 => retries - 1,
@@ -536,7 +541,7 @@ struct Output<'a> {
 }
 
 impl<'a> Output<'a> {
-    /// "Frame and tick calls ask for an output of at least 645 octets."
+    /// Frame and tick calls ask for an output of room for a report to each record.
     fn lent(octets: &'a mut [u8]) -> Result<Self, Refusal> {
         let enough = octets.len() >= LEAST_OUTPUT;
         enough.then_some(Output { octets, used: 0 }).ok_or(Refusal::Output)

@@ -4,6 +4,7 @@ use crate::messages::{Address, Body, Destination, Kind, Message, Nid, Nmk, RunId
 use crate::refusal::Refusal;
 use crate::script::{write_head, Event};
 use crate::station::{Answer, Config, Indication, Phase, Pilot, Service, State, Station, Step};
+use crate::station::{LEAST_OUTPUT, RECORDS};
 use crate::{compare, count, generate, show, validation_count};
 
 const fn address(last: u8) -> Address {
@@ -121,7 +122,7 @@ impl Bench {
     }
 
     fn octets(&mut self, frame: &[u8]) -> Seen {
-        self.call(645, |station, output| station.receive(frame, output))
+        self.call(LEAST_OUTPUT, |station, output| station.receive(frame, output))
     }
 
     fn hear(&mut self, message: Message) -> Seen {
@@ -153,7 +154,7 @@ impl Bench {
 
     fn tick(&mut self, elapsed: u32) -> Seen {
         let reading = self.0.reading.wrapping_add(elapsed);
-        self.call(645, |station, output| station.tick(reading, output))
+        self.call(LEAST_OUTPUT, |station, output| station.tick(reading, output))
     }
 
     fn service(&self, car: Address) -> Result<Service, u32> {
@@ -286,24 +287,27 @@ fn p7_the_report_is_the_mean_rounded_down() {
 fn p8_p9_the_clock_wraps_and_gaps_are_refused() {
     let mut bench = Bench::new();
     assert_eq!(bench.pilot(Pilot::B, 4_294_967_290), NOTHING);
-    assert_eq!(bench.call(645, |station, output| station.tick(4, output)), NOTHING);
+    assert_eq!(bench.call(LEAST_OUTPUT, |station, output| station.tick(4, output)), NOTHING);
     assert_eq!(bench.0.state, State::Matching { admission: 49_990 });
     assert_eq!((bench.tick(60_001), bench.0.reading), (Err(14), 4));
-    assert_eq!(bench.call(644, |station, output| station.tick(70_000, output)), Err(15));
+    assert_eq!(
+        bench.call(LEAST_OUTPUT - 1, |station, output| station.tick(70_000, output)),
+        Err(15)
+    );
     assert_eq!(bench.tick(u32::MAX), Err(14));
     assert_eq!((bench.tick(60_000), bench.0.reading), (NO_LINK, 60_004));
     assert_eq!((bench.tick(60_001), bench.tick(60_000)), (Err(14), NOTHING));
-    assert_eq!(Bench::new().call(645, |s, output| s.tick(60_001, output)), Err(14));
+    assert_eq!(Bench::new().call(LEAST_OUTPUT, |s, output| s.tick(60_001, output)), Err(14));
 }
 
 #[test]
 fn p10_a_full_house() {
     let mut bench = Bench::plugged();
-    for last in 1..=5 {
+    for last in 1..=16 {
         let reply = Body::ParmCnf { run: RUN }.send(US, address(last));
         assert_eq!(bench.hear(REQUEST.broadcast(address(last))), replies(&[reply]));
     }
-    assert_eq!(bench.hear(REQUEST.broadcast(address(6))), Err(10));
+    assert_eq!(bench.hear(REQUEST.broadcast(address(17))), Err(10));
     assert_eq!((bench.tick(100), bench.car(START)), (NOTHING, NOTHING));
     assert_eq!((bench.car(sound(3)), bench.profile(CAR, 9)), (NOTHING, NOTHING));
     let run = RunId([9; 8]);
@@ -312,7 +316,8 @@ fn p10_a_full_house() {
     assert_eq!((record.run, record.heard, record.profiles, record.sums), (run, 0, 0, [0; 58]));
     assert_eq!((record.least, record.greatest), ([255; 58], [0; 58]));
     assert_eq!(bench.phase(CAR), Some((Phase::Asked, 400)));
-    assert_eq!(bench.0.records().map(|r| r.car.0[5]).collect::<Vec<_>>(), [1, 2, 3, 4, 5]);
+    let held: Vec<u8> = bench.0.records().map(|record| record.car.0[5]).collect();
+    assert_eq!(held, (1..=16).collect::<Vec<_>>());
     assert_eq!(bench.car(START), Err(11));
 }
 
@@ -475,7 +480,10 @@ fn the_order_of_a_frame_to_the_station() {
     assert_eq!(answer, Err(Refusal::Configuration));
     assert_eq!(bad.receive(&[], &mut []), Err(Refusal::Configuration));
     let mut bench = Bench::new();
-    assert_eq!(bench.call(644, |station, output| station.receive(&[], output)), Err(15));
+    assert_eq!(
+        bench.call(LEAST_OUTPUT - 1, |station, output| station.receive(&[], output)),
+        Err(15)
+    );
     assert_eq!(bench.octets(&[]), Err(1));
     assert_eq!(bench.hear(Body::ParmCnf { run: RUN }.send(CAR, address(2))), Err(17));
     assert_eq!(bench.hear(MATCH.send(CAR, MODEM)), Err(7));
@@ -537,16 +545,18 @@ fn three_reports_and_no_more() {
 #[test]
 fn reports_of_one_tick_stand_in_record_order() {
     let mut bench = Bench::plugged();
-    let cars = [3, 1, 5, 2, 4].map(address);
+    let cars = [3, 1, 5, 2, 4, 16, 7, 8, 15, 10, 11, 14, 13, 12, 9, 6].map(address);
+    assert_eq!((cars.len(), LEAST_OUTPUT), (RECORDS, 2_064));
     for car in cars {
         assert!(bench.hear(REQUEST.broadcast(car)).is_ok());
         assert_eq!(bench.hear(START.broadcast(car)), NOTHING);
         assert_eq!(bench.profile(car, car.0[5]), NOTHING);
     }
     let reports = cars.map(|car| report(car, 1, car.0[5]));
+    assert_eq!(bench.call(2_063, |station, output| station.tick(600, output)), Err(15));
     assert_eq!(bench.tick(600), replies(&reports));
     assert_eq!(bench.hear(RESPONSE.send(cars[2], US)), NOTHING);
-    assert_eq!(bench.tick(60_000), replies(&[reports[0], reports[1], reports[3], reports[4]]));
+    assert_eq!(bench.tick(60_000), replies(&[&reports[..2], &reports[3..]].concat()));
     assert_eq!((bench.phase(cars[2]), bench.0.state), (None, State::Matching { admission: 0 }));
 }
 
@@ -562,7 +572,7 @@ fn the_end_of_admission() {
     assert_eq!((bench.0.state, bench.0.pilot), (State::Unmatched, Pilot::B));
     assert_eq!(Bench::plugged().tick(50_000), NO_LINK);
     let mut bench = Bench::plugged();
-    (1..=5).for_each(|last| assert!(bench.hear(REQUEST.broadcast(address(last))).is_ok()));
+    (1..=16).for_each(|last| assert!(bench.hear(REQUEST.broadcast(address(last))).is_ok()));
     assert_eq!((bench.tick(400), bench.0.records().count()), (NOTHING, 0));
 }
 
@@ -723,9 +733,12 @@ fn an_empty_run_is_refused() {
     assert_eq!(Message::read(&frame[..29]), Ok(empty.broadcast(CAR)));
     // 16, 15, reading and 7 come before, and so does 8.
     let (mut bad, _) = Station::configure(Config { modem: US, ..CONFIG });
-    assert_eq!(bad.receive(&frame, &mut [0; 645]), Err(Refusal::Configuration));
+    assert_eq!(bad.receive(&frame, &mut [0; LEAST_OUTPUT]), Err(Refusal::Configuration));
     let mut bench = Bench::new();
-    assert_eq!(bench.call(644, |station, output| station.receive(&frame, output)), Err(15));
+    assert_eq!(
+        bench.call(LEAST_OUTPUT - 1, |station, output| station.receive(&frame, output)),
+        Err(15)
+    );
     assert_eq!(bench.octets(&frame[..28]), Err(1));
     assert_eq!((bench.car(empty), Bench::joining().car(empty)), (Err(8), Err(8)));
     let mut matched = Bench::joining();
@@ -737,7 +750,7 @@ fn an_empty_run_is_refused() {
     }
     // A car without a record, with admission open, then with no free record, then closed.
     assert_eq!(bench.car(empty), Err(21));
-    for last in 2..=6 {
+    for last in 2..=17 {
         assert!(bench.hear(REQUEST.broadcast(address(last))).is_ok());
     }
     assert_eq!((bench.car(REQUEST), bench.car(empty)), (Err(10), Err(21)));
@@ -817,15 +830,16 @@ fn script(events: &[Event]) -> Vec<u8> {
 #[test]
 fn a_script_is_answered_event_by_event() {
     let frame = |room| Event::Frame { octets: p1(), room };
-    let hear = |message: Message| Event::Frame { octets: message.to_frame().unwrap(), room: 645 };
+    let hear =
+        |message: Message| Event::Frame { octets: message.to_frame().unwrap(), room: LEAST_OUTPUT };
     let profile = |value| Body::AttenProfile { car: CAR, groups: [value; 58] }.send(MODEM, US);
     let plug = Event::Pilot { to: Pilot::B, reading: 1 };
     let query = Event::Query { car: CAR };
     let start = hear(START.broadcast(CAR));
     let whole = script(&[
         plug,
-        frame(645),
-        frame(644),
+        frame(LEAST_OUTPUT),
+        frame(LEAST_OUTPUT - 1),
         query.clone(),
         start,
         hear(sound(1).broadcast(CAR)),
@@ -895,9 +909,9 @@ fn random_scripts_come_from_their_seed_and_compare_equal() {
 /// Seeds and how many events of them. The first is covered, and reaches every row but 16 and those
 /// of a station that doesn't require validation; the second is covered and reaches these; the
 /// third has a bad configuration.
-const FULL: (u64, u32) = (51, 2_600);
-const EXEMPT: (u64, u32) = (38, 700);
-const BAD: (u64, u32) = (22, 250);
+const FULL: (u64, u32) = (11, 2_800);
+const EXEMPT: (u64, u32) = (25, 700);
+const BAD: (u64, u32) = (56, 250);
 
 fn random_script(seed: u64, events: u32) -> Vec<u8> {
     let mut script = Vec::new();
@@ -1131,7 +1145,7 @@ fn confirmations_stand_behind_reports() {
     let success = validated(CAR, 2, 0);
     let mut together = bench.clone();
     assert_eq!(together.tick(600), replies(&[reports[0], reports[1], success]));
-    assert_eq!(together.call(644, |station, output| station.tick(0, output)), Err(15));
+    assert_eq!(together.call(LEAST_OUTPUT - 1, |station, output| station.tick(0, output)), Err(15));
     bench.toggle(&[Pilot::C]);
     let failure = validated(CAR, 3, 0);
     let (octets, _) = bench.tick(600).unwrap();
@@ -1214,7 +1228,7 @@ fn validation_is_one_firing_a_tick() {
     // The excess is dropped: the 10,000 start at the tick.
     bench.toggle(&[Pilot::C, Pilot::B]);
     let after = bench.0.reading.wrapping_add(20_000);
-    let seen = bench.call(645, |station, output| station.tick(after, output));
+    let seen = bench.call(LEAST_OUTPUT, |station, output| station.tick(after, output));
     assert_eq!(seen, replies(&[validated(CAR, 2, 1)]));
     assert_eq!(bench.step(CAR), Some((Step::Success, 10_000)));
     assert_eq!(bench.phase(OTHER), None);
@@ -1222,7 +1236,7 @@ fn validation_is_one_firing_a_tick() {
     let mut bench = Bench::counting(0);
     let before = bench.0.clone();
     assert_eq!((bench.tick(60_001), &bench.0), (Err(14), &before));
-    assert_eq!(bench.call(644, |station, output| station.tick(700, output)), Err(15));
+    assert_eq!(bench.call(LEAST_OUTPUT - 1, |station, output| station.tick(700, output)), Err(15));
     assert_eq!(bench.0, before);
 }
 
@@ -1294,7 +1308,7 @@ fn is_validated(record: &crate::station::Record) -> bool {
 #[test]
 fn validation_in_words() {
     let (mut bench, hear) = (Bench::ready(), second(2).broadcast(CAR).to_frame().unwrap());
-    let event = Event::Frame { octets: hear, room: 645 };
+    let event = Event::Frame { octets: hear, room: LEAST_OUTPUT };
     let answer = crate::script::Answer::from(event.happen(&mut bench.0));
     let line = show::line(&event, &bench.0, &answer);
     assert!(line.contains("CM_VALIDATE.REQ second, 2"), "{line}");
