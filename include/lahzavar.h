@@ -32,8 +32,8 @@ extern "C" {
 
 /* The version of this header. */
 #define LAHZAVAR_MAJOR 0
-#define LAHZAVAR_MINOR 5
-#define LAHZAVAR_PATCH 1
+#define LAHZAVAR_MINOR 6
+#define LAHZAVAR_PATCH 0
 /* The same as one number, which lahzavar_version() gives of the library. */
 #define LAHZAVAR_VERSION (65536u * LAHZAVAR_MAJOR + 256u * LAHZAVAR_MINOR + LAHZAVAR_PATCH)
 

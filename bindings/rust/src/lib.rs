@@ -135,9 +135,9 @@ pub const STATIONS: usize = 10;
 /// The least room that [`Car::start`], [`Car::frame`] and [`Car::tick`] ask for: a
 /// `CM_SLAC_MATCH.REQ`.
 pub const CAR_LEAST_OUTPUT: usize = 85;
-/// The version of the library that this wrapper describes, 0.5.1: 65536 times its first number, 256
+/// The version of the library that this wrapper describes, 0.6.0: 65536 times its first number, 256
 /// times its second, and its third.
-pub const VERSION: u32 = 256 * 5 + 1;
+pub const VERSION: u32 = 256 * 6;
 
 const WORDS: usize = 13 + 8 * RECORDS;
 const SUMS: usize = GROUPS * RECORDS;

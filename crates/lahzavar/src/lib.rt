@@ -31,8 +31,8 @@ ghost use Rattle.words.specs.Wiped.{Wiped};
 ghost use Rattle.lahzavar.specs.Answers.{version, Tells};
 ghost use Rattle.lahzavar.specs.Lent.{Lent, PilotLent, Configures};
 
-// The version 0.5.1: 65536 times the major number, 256 times the minor, and the patch.
-const VERSION: u32 = 65536 * 0 + 256 * 5 + 1;
+// The version 0.6.0: 65536 times the major number, 256 times the minor, and the patch.
+const VERSION: u32 = 65536 * 0 + 256 * 6 + 0;
 
 // A call's answer: the refusal's number or 0; an indication (0 none, 1 no link, 2 link established); how many frames of how many octets in all.
 #[repr(C)]
