@@ -36,9 +36,9 @@ use Rattle.rules.specs.Stations.{Done, shared, inner}
 use Rattle.rules.proofs.State.{the-type}
 use Rattle.records.specs.declared.find.Found.{Found}
 use Rattle.records.specs.declared.find.Found.the-variants.{Own}
-use Rattle.records.specs.Places.{placeOf}
+use Rattle.records.specs.Places.{ownFrom, placeOf}
 use Rattle.records.proofs.find.Found as places
-use Rattle.records.proofs.PlaceLaws.{found, not-own}
+use Rattle.records.proofs.PlaceLaws.{own-found, own-missing}
 use Rattle.receiving.specs.declared.admission.Admission.{Admission}
 use Rattle.receiving.specs.declared.judge.Judged.{Judged}
 use Rattle.receiving.specs.declared.judge.Judged.the-variants as judged
@@ -118,16 +118,17 @@ module _ (w s z : List ℕ) (c : CarAddress) where
           parm-answered (configOf w) (stateOf w) (recordsOf w s z) c run a (sym es ∙ t) p (ep s z) x ex
           ∙ ap (λ (y : Admission). andThen (admissionOf y) (λ (i : ℕ). settled (stationOf w s z) i c (keeps (fresh c run) (parmCnf run ∷ [])))) ek
 
+    module _ (a : ℕ) (t : st ≡ Matching a) (p : Found) (ep : (u h : List ℕ) → p ≡ ownFrom c 0 (recordsOf w u h)) where
       module _ (m : OwnMessage) (g : List ℕ) where
         -- 11 where the car holds no record
         pub takes-missing : OneOf (1 ∷ 2 ∷ []) (tagOf places.the-type p) → ruleOf (forRecord (ownMessageOf m g)) ≡ no 11
         unfolding stationOf
-        takes-missing o = own-none (stationOf w s z) c (ownMessageOf m g) (ownRule m g) (change-own c m g _) a (sym es ∙ t) (not-own c (recordsOf w s z) p (ep s z) o)
+        takes-missing o = own-none (stationOf w s z) c (ownMessageOf m g) (ownRule m g) (change-own c m g _) a (sym es ∙ t) (own-missing c (recordsOf w s z) p (ep s z) o)
 
         -- a message at the car's own record
         pub takes-own : (i : ℕ) (d r : Record) (x : Checked Kept) → p ≡ Own i → r ≡ getD (recordsOf w s z) i d → x ≡ ownRule m g r → settled (stationOf w s z) i c x ≡ ruleOf (forRecord (ownMessageOf m g))
         unfolding stationOf
-        takes-own i d r x e er ex = own-settled (stationOf w s z) c (ownMessageOf m g) (ownRule m g) (change-own c m g _) i d x (a, sym es ∙ t) (found c (recordsOf w s z) p (Own i) (ep s z) e) (ex ∙ ap (ownRule m g) er)
+        takes-own i d r x e er ex = own-settled (stationOf w s z) c (ownMessageOf m g) (ownRule m g) (change-own c m g _) i d x (a, sym es ∙ t) (own-found c (recordsOf w s z) p i (ep s z) e) (ex ∙ ap (ownRule m g) er)
 
 -- ---- the call
 

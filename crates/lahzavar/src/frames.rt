@@ -182,7 +182,7 @@ fn at_own(
     let State::Matching(_) = state else {
         return answers::refused(Refusal::WrongState);
     };
-    let found = words::find(words, car);
+    let found = words::own_place(words, car);
     let Found::Own(i) = found else {
         return answers::refused(Refusal::NoRecord);
     };

@@ -68,12 +68,17 @@ free-step : (i : ℕ) (b : Bool) (q : Found) → cond b q (Free i) ≡ orElse (c
 free-step i true q = refl
 free-step i false q = refl
 
-module _ (c : CarAddress) (l : List Record) (i : ℕ) (free : Found) (z : Record) (s : Searching c l i free) (h : i < length l) where
-  -- the search for the own record, one record on
-  own-next : ownFrom c i (drop i l) ≡ cond (holds c (getD l i z)) (Own i) (ownFrom c (i + 1) (drop (i + 1) l))
-  unfolding ownFrom
-  own-next = ap (ownFrom c i) (drop-next l i z h)
+-- the search for the own record, one record on
+pub own-next : (c : CarAddress) (l : List Record) (i : ℕ) (z : Record) → i < length l → ownFrom c i (drop i l) ≡ cond (holds c (getD l i z)) (Own i) (ownFrom c (i + 1) (drop (i + 1) l))
+unfolding ownFrom
+own-next c l i z h = ap (ownFrom c i) (drop-next l i z h)
 
+-- and past the last
+pub own-end : (c : CarAddress) (l : List Record) (i : ℕ) → length l ≤ i → ownFrom c i (drop i l) ≡ Nothing
+unfolding ownFrom
+own-end c l i past = ap (ownFrom c i) (drop-of-length-le l past)
+
+module _ (c : CarAddress) (l : List Record) (i : ℕ) (free : Found) (z : Record) (s : Searching c l i free) (h : i < length l) where
   -- the search for a free record, one record on
   free-next : freeFrom i (drop i l) ≡ cond (isHeld (getD l i z)) (freeFrom (i + 1) (drop (i + 1) l)) (Free i)
   unfolding freeFrom
@@ -83,7 +88,7 @@ module _ (c : CarAddress) (l : List Record) (i : ℕ) (free : Found) (z : Record
   pub searching-own : holds c (getD l i z) ≡ true → Own i ≡ placeOf c l
   unfolding placeOf
   searching-own e =
-      let found : ownFrom c 0 l ≡ Own i = s .own ∙ own-next ∙ rw e in
+      let found : ownFrom c 0 l ≡ Own i = s .own ∙ own-next c l i z h ∙ rw e in
       sym (rw found)
 
   -- another record: the next one, with the free place kept
@@ -91,7 +96,7 @@ module _ (c : CarAddress) (l : List Record) (i : ℕ) (free : Found) (z : Record
   unfolding isHeld
   searching-next p e q = record {
     turns = omega arith;
-    own = s .own ∙ own-next ∙ rw e;
+    own = s .own ∙ own-next c l i z h ∙ rw e;
     first =
         s .first
         ∙ ap (orElse free) (free-next ∙ free-step i (getD l i z .held) (freeFrom (i + 1) (drop (i + 1) l)))
@@ -216,3 +221,18 @@ pub not-own : (c : CarAddress) (rs : List Record) (p : Found) → p ≡ placeOf 
 not-own c rs (Own i) e o = absurd (miss (1 ∷ 2 ∷ []) 0 tt o)
 not-own c rs (Free i) e o = found c rs (Free i) (Free i) e refl .mine
 not-own c rs Nothing e o = found c rs Nothing Nothing e refl .mine
+
+-- ---- by the search for the own record alone
+
+-- its place
+pub own-found : (c : CarAddress) (rs : List Record) (p : Found) (i : ℕ) → p ≡ ownFrom c 0 rs → p ≡ Own i → OwnAt c rs i
+own-found c rs p i e t =
+    let w = own-place c 0 rs i (sym e ∙ t) in
+    let n : w .0 ≡ i = omega (arith, w .1 .0) in
+    subst (OwnAt c rs) n (w .1 .1)
+
+-- none: the car has no record
+pub own-missing : (c : CarAddress) (rs : List Record) (p : Found) → p ≡ ownFrom c 0 rs → OneOf (1 ∷ 2 ∷ []) (tagOf the-type p) → mine c rs ≡ []
+own-missing c rs (Own i) e o = absurd (miss (1 ∷ 2 ∷ []) 0 tt o)
+own-missing c rs (Free i) e o = absurd (own-no-free c 0 rs i (sym e))
+own-missing c rs Nothing e o = own-gone c 0 rs (sym e)

@@ -1,7 +1,7 @@
 -- The steps of the searches over the records, by what their words say.
 use Prim.Native.Nat.{ℕ, _+_, _≤_, _<_}
-use mathlib.Core.Path.{_≡_, sym, ap, ap₂, _∙_}
-use mathlib.Core.Bool.{Bool, true, false, _&&_}
+use mathlib.Core.Path.{_≡_, refl, sym, ap, ap₂, _∙_}
+use mathlib.Core.Bool.{Bool, true, false, cond, _&&_, and-false}
 use mathlib.Core.List.{List, _∷_}
 use native.Mathlib.Omega.{arith}
 use lib.Dec.{eqb}
@@ -14,8 +14,8 @@ use Rattle.rules.specs.Rules.{freeRecord}
 use Rattle.ends.proofs.ListLaws.{drop-next, only-none, only-yes, only-no}
 use Rattle.records.specs.declared.find.Found.{Found}
 use Rattle.records.specs.declared.find.Found.the-variants.{Own, Nothing}
-use Rattle.records.specs.Places.{orFree, placeOf}
-use Rattle.records.proofs.PlaceLaws.{Searching, searching-start, searching-own, searching-next, searching-end}
+use Rattle.records.specs.Places.{ownFrom, orFree, placeOf}
+use Rattle.records.proofs.PlaceLaws.{own-next, own-end, Searching, searching-start, searching-own, searching-next, searching-end}
 use Rattle.words.specs.Words.{recordsOf, heldCount}
 use Rattle.words.proofs.RecordWords.{length-records}
 
@@ -23,7 +23,39 @@ use Rattle.words.proofs.RecordWords.{length-records}
 abbrev pub at : List ℕ → List ℕ → List ℕ → ℕ → Record
 at w s x i = getD (recordsOf w s x) i freeRecord
 
--- ---- the car's own record
+-- ---- the car's own record alone
+
+-- before the record at i: none of those before it is the car's own
+pub record Passing (c : CarAddress) (w : List ℕ) (i : ℕ) : Type 0 where
+  pub turns : i ≤ recordCount
+  pub own : (s x : List ℕ) → ownFrom c 0 (recordsOf w s x) ≡ ownFrom c i (drop i (recordsOf w s x))
+
+pub passing-start : (c : CarAddress) (w : List ℕ) → Passing c w 0
+passing-start c w = record { turns = omega arith; own = λ s x. refl }
+
+pub passing-end : (c : CarAddress) (w : List ℕ) (i : ℕ) → Passing c w i → recordCount ≤ i → (s x : List ℕ) → Nothing ≡ ownFrom c 0 (recordsOf w s x)
+passing-end c w i k h s x = sym (k .own s x ∙ own-end c (recordsOf w s x) i (rw (length-records w s x) h))
+
+-- whether car c holds the record r, by the record's car and whether it is held
+pub holds-by : (c owner : CarAddress) (r : Record) (same held : Bool) → owner ≡ r .car → eqb (c .0) (owner .0) ≡ same → held ≡ isHeld r → held && same ≡ holds c r
+unfolding holds sameCar
+holds-by c owner r same held o e h = sym (rw (sym h, sym o, e))
+
+-- a record of another car
+pub holds-other : (c owner : CarAddress) (r : Record) → owner ≡ r .car → eqb (c .0) (owner .0) ≡ false → false ≡ holds c r
+holds-other c owner r o e = sym (and-false (isHeld r)) ∙ holds-by c owner r false (isHeld r) o e refl
+
+module _ (c : CarAddress) (w : List ℕ) (i : ℕ) (k : Passing c w i) (h : i < recordCount) (b : Bool) (e : (s x : List ℕ) → b ≡ holds c (at w s x i)) where
+  here : (s x : List ℕ) → ownFrom c 0 (recordsOf w s x) ≡ cond b (Own i) (ownFrom c (i + 1) (drop (i + 1) (recordsOf w s x)))
+  here s x = k .own s x ∙ own-next c (recordsOf w s x) i freeRecord (rw (length-records w s x) h) ∙ ap (λ (y : Bool). cond y (Own i) (ownFrom c (i + 1) (drop (i + 1) (recordsOf w s x)))) (sym (e s x))
+
+  pub passing-own : b ≡ true → (s x : List ℕ) → Own i ≡ ownFrom c 0 (recordsOf w s x)
+  passing-own t s x = sym (here s x ∙ rw t)
+
+  pub passing-next : b ≡ false → Passing c w (i + 1)
+  passing-next f = record { turns = omega arith; own = λ s x. here s x ∙ rw f }
+
+-- ---- the car's own record, or the first free one
 
 -- before the record at i, with the first free place so far
 pub record Seeking (c : CarAddress) (w : List ℕ) (i : ℕ) (free : Found) : Type 0 where

@@ -22,7 +22,7 @@ ghost use Prim.Native.Nat.{ℕ};
 ghost use lib.ListN.{getD, set};
 ghost use Rattle.rules.specs.Invariant.{GoodRecord, Invariant};
 ghost use Rattle.rules.specs.Rules.{freeRecord};
-ghost use Rattle.records.specs.Places.{placeOf};
+ghost use Rattle.records.specs.Places.{ownFrom, placeOf};
 ghost use Rattle.words.specs.Words.{configOf, stateOf, recordsOf, heldCount, stationOf, withRecords};
 ghost use Rattle.words.specs.Written.{stateNumber};
 ghost use Rattle.words.specs.Wiped.{Wiped};
@@ -66,6 +66,13 @@ pub fn state_of(words: &StationWords) -> State
     ensures { λ r. ⌜ r ≡ stateOf (now (words .entry)) ⌝ }
 {
     head::state(words)
+}
+
+// The place of the car's own record, or none: of other cars' records one word is read.
+pub fn own_place(words: &StationWords, car: CarAddress) -> Found
+    ensures { λ p. ⌜ ((sums spread : List ℕ) → p ≡ ownFrom car 0 (recordsOf (now (words .entry)) sums spread)) ⌝ }
+{
+    search::own_place(words, car)
 }
 
 // The place of the car's own record, or else the first free place: two words of each record are read.

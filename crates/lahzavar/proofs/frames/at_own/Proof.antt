@@ -22,8 +22,8 @@ returns c =
     let a = c .before .before .before .before .before .before .args in
     comes-refused _ WrongState (a .words .now) (a .sums .now) (a .spread .now) (a .out .now) (c .refused .result) (takes-none (a .words .now) (a .sums .now) (a .spread .now) (a .car) _ (c .before .before .state-of .ensures) _ (c .before .match .keys2)) (c .refused .ensures)
 
-find-requires : tie.Need-find-requires
-find-requires c κs = search needs
+own-place-requires : tie.Need-own-place-requires
+own-place-requires c κs = search needs
 
 enum-known-found : tie.Need-enum-known-found
 enum-known-found c = search needs
@@ -34,7 +34,7 @@ refused-requires-2 c κs = search needs
 returns-2 : tie.Need-returns-2
 returns-2 c =
     let a = c .before .before .before .before .before .before .before .before .before .before .args in
-    comes-refused _ NoRecord (a .words .now) (a .sums .now) (a .spread .now) (a .out .now) (c .refused2 .result) (takes-missing (a .words .now) (a .sums .now) (a .spread .now) (a .car) _ (c .before .before .before .before .before .before .state-of .ensures) _ (c .before .before .before .before .enum-told .given .1) (c .before .before .find .result) (c .before .before .find .ensures) (a .message) (groupsOf (readRules (a .octets .now))) (c .before .match2 .keys2)) (c .refused2 .ensures)
+    comes-refused _ NoRecord (a .words .now) (a .sums .now) (a .spread .now) (a .out .now) (c .refused2 .result) (takes-missing (a .words .now) (a .sums .now) (a .spread .now) (a .car) _ (c .before .before .before .before .before .before .state-of .ensures) _ (c .before .before .before .before .enum-told .given .1) (c .before .before .own-place .result) (c .before .before .own-place .ensures) (a .message) (groupsOf (readRules (a .octets .now))) (c .before .match2 .keys2)) (c .refused2 .ensures)
 
 record-at-requires : tie.Need-record-at-requires
 record-at-requires c κs = search needs
@@ -54,7 +54,7 @@ returns-3 : tie.Need-returns-3
 returns-3 c =
     let a = c .before .before .before .before .before .before .before .before .before .before .before .before .before .before .before .before .before .before .before .before .before .before .before .args in
     comes-as _ _ (a .words .now) (a .sums .now) (a .spread .now) (a .out .now) _ _ _ _ (c .before .before .settle .result)
-    (takes-own (a .words .now) (a .sums .now) (a .spread .now) (a .car) _ (c .before .before .before .before .before .before .before .before .before .before .before .before .before .before .before .before .before .before .before .state-of .ensures) _ (c .before .before .before .before .before .before .before .before .before .before .before .before .before .before .before .before .before .enum-told .given .1) (c .before .before .before .before .before .before .before .before .before .before .before .before .before .before .before .find .result) (c .before .before .before .before .before .before .before .before .before .before .before .before .before .before .before .find .ensures) (a .message) (groupsOf (readRules (a .octets .now))) _ freeRecord _ _ (c .before .before .before .before .before .before .before .before .before .before .before .before .before .found .given .1) (c .before .before .before .before .before .before .before .before .record-at .ensures .0) (c .before .before .before .before .before .before .before .at-record .ensures .0 .effect))
+    (takes-own (a .words .now) (a .sums .now) (a .spread .now) (a .car) _ (c .before .before .before .before .before .before .before .before .before .before .before .before .before .before .before .before .before .before .before .state-of .ensures) _ (c .before .before .before .before .before .before .before .before .before .before .before .before .before .before .before .before .before .enum-told .given .1) (c .before .before .before .before .before .before .before .before .before .before .before .before .before .before .before .own-place .result) (c .before .before .before .before .before .before .before .before .before .before .before .before .before .before .before .own-place .ensures) (a .message) (groupsOf (readRules (a .octets .now))) _ freeRecord _ _ (c .before .before .before .before .before .before .before .before .before .before .before .before .before .found .given .1) (c .before .before .before .before .before .before .before .before .record-at .ensures .0) (c .before .before .before .before .before .before .before .at-record .ensures .0 .effect))
     (c .before .before .settle .ensures)
 
 pub at-own-spec : {M : Type 1} → statement M
@@ -65,7 +65,7 @@ at-own-spec =
     enum-told
     refused-requires
     returns
-    find-requires
+    own-place-requires
     enum-known-found
     refused-requires-2
     returns-2
