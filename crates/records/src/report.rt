@@ -5,7 +5,7 @@ use rules::GroupSums;
 use rules::Record;
 ghost use mathlib.Core.Path.{_≡_};
 ghost use mathlib.Core.List.{map};
-ghost use Prim.Native.Nat.{ℕ, _*_, _^_, _/_, _<_, _≤_};
+ghost use Prim.Native.Nat.{ℕ, _+_, _*_, _^_, _/_, _<_, _≤_};
 ghost use lib.ListN.{getD};
 ghost use Rattle.rules.specs.Replies.{mean};
 ghost use Rattle.rules.specs.Invariant.{GoodRecord};
@@ -41,15 +41,16 @@ fn reciprocal_of(profiles: u8) -> u32
     RECIPROCALS[at]
 }
 
-// A sum times a factor, divided by 65,536.
-fn scaled(sum: u16, factor: u32) -> u8
-    requires { ⌜ sum * factor < 2 ^ 24 ⌝ }
-    ensures { λ r. ⌜ r ≡ sum * factor / 2 ^ 16 ⌝ }
+// A sum and an addend, times a factor, divided by 65,536.
+fn scaled(sum: u16, addend: u16, factor: u32) -> u8
+    requires { ⌜ (sum + addend) * factor < 2 ^ 24 ⌝ }
+    ensures { λ r. ⌜ r ≡ (sum + addend) * factor / 2 ^ 16 ⌝ }
 {
-    ((sum as u32 * factor) >> 16) as u8
+    (((sum as u32 + addend as u32) * factor) >> 16) as u8
 }
 
-// Each sum scaled by the reciprocal of the profiles counted: its mean, rounded down; zeros where no profile is counted.
+// Each sum, with half the profiles counted, scaled by their reciprocal: its mean, rounded to the nearest, a half upwards; zeros
+// where no profile is counted.
 pub fn values(r: Record) -> GroupValues
     requires { ⌜ GoodRecord r ⌝ }
     ensures { λ v. ⌜ v ≡ map (mean (r .profiles)) (r .sums) ⌝ }
@@ -64,10 +65,11 @@ fn means(sums: GroupSums, profiles: u8) -> GroupValues
     ensures { λ v. ⌜ v ≡ map (mean profiles) sums ⌝ }
 {
     let factor = reciprocal_of(profiles);
+    let half = (profiles / 2) as u16;
     let mut values = messages::no_groups();
     let mut i: usize = 0;
     while i < GROUPS {
-        values[i] = scaled(sums[i], factor);
+        values[i] = scaled(sums[i], half, factor);
         i = i + 1;
     }
     values

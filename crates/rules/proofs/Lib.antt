@@ -28,3 +28,4 @@ pub mod SpreadLaws
 pub mod ReachableHolds
 pub mod IndexLaws
 pub mod ConfigureLaws
+pub mod NearestHolds

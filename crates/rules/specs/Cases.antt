@@ -169,10 +169,10 @@ table =
       asked = running (station Unmatched A 0 []) (pilot B 7 ∷ frame p1 leastOutput ∷ []);
       expected = runs (sends [] ∷ sends (p2 ∷ []) ∷ []) (Matching 50000) 7 (held 1 (Asked 400) 0 0 0 ∷ []);
     }
-    -- P7: profiles 10 and 11 in a group: reports 10, used 2
+    -- P7: profiles 10 and 11 in a group: reports 11, used 2
     ∷ record {
       asked = running (station (Matching 50000) B 0 (held 1 (Sounding 600) 0 0 0 ∷ [])) (frame (profileOf 10) leastOutput ∷ frame (profileOf 11) leastOutput ∷ tick 600 leastOutput ∷ []);
-      expected = runs (sends [] ∷ sends [] ∷ sends (reportTo 2 10 ∷ []) ∷ []) (Matching 49400) 600 (record { car = record { 0 = 0x020000000001 }; run = record { 0 = 0x0102030405060708 }; held = true; phase = Reported 200 2; heard = 0; profiles = 2; sums = replicate groupCount 21; spread = record { least = replicate groupCount 10; greatest = replicate groupCount 11 } } ∷ []);
+      expected = runs (sends [] ∷ sends [] ∷ sends (reportTo 2 11 ∷ []) ∷ []) (Matching 49400) 600 (record { car = record { 0 = 0x020000000001 }; run = record { 0 = 0x0102030405060708 }; held = true; phase = Reported 200 2; heard = 0; profiles = 2; sums = replicate groupCount 21; spread = record { least = replicate groupCount 10; greatest = replicate groupCount 11 } } ∷ []);
     }
     -- P8: last 4,294,967,290, now 4: elapsed 10
     ∷ record {

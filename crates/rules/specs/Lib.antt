@@ -5,6 +5,7 @@ pub mod Records
 pub mod Sounds
 pub mod Validation
 pub mod Replies
+pub mod Nearest
 pub mod Received
 pub mod Events
 pub mod Frames

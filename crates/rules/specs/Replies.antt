@@ -1,5 +1,5 @@
 -- Replies: what the station sends to a car, without the destination, and a report's values.
-use Prim.Native.Nat.{ℕ, _/_}
+use Prim.Native.Nat.{ℕ, _+_, _/_}
 use mathlib.Core.Bool.{Bool, true, false}
 use mathlib.Core.List.{List, map}
 use Rattle.messages.specs.declared.CarAddress.{CarAddress}
@@ -17,9 +17,9 @@ pub data Reply : Type 0 where
   -- the toggles, and the result
   confirmation : ℕ → ℕ → Reply
 
--- "the sum divided by that count, rounded down"
+-- "the sum divided by that count, rounded to the nearest whole number, a half upwards"
 unfoldable pub mean : ℕ → ℕ → ℕ
-mean count sum = sum / count
+mean count sum = (sum + count / 2) / count
 
 -- "a report": "profiles counted, and for each group the sum divided by that count"
 unfoldable pub reportOf : Record → Reply

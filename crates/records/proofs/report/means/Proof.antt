@@ -12,13 +12,16 @@ use Rattle.records.proofs.report.means.Statement.{statement}
 use Rattle.records.proofs.report.means.Tie as tie
 
 abbrev Inv-loop : tie.InvT-loop
-Inv-loop profiles sums factor values₀ i₀ values i = Filled (mean profiles) sums values i
+Inv-loop profiles sums factor half values₀ i₀ values i = Filled (mean profiles) sums values i
 
 abbrev μ-loop : tie.MeasureT-loop
-μ-loop profiles sums factor values₀ i₀ values i = length sums - i
+μ-loop profiles sums factor half values₀ i₀ values i = length sums - i
 
 reciprocal-of-requires : tie.Need-reciprocal-of-requires Inv-loop μ-loop
 reciprocal-of-requires c κs = search needs
+
+cast-half : tie.Need-cast-half Inv-loop μ-loop
+cast-half c = search needs
 
 no-groups-requires : tie.Need-no-groups-requires Inv-loop μ-loop
 no-groups-requires c κs = search needs
@@ -71,6 +74,7 @@ means-spec =
     Inv-loop
     μ-loop
     reciprocal-of-requires
+    cast-half
     no-groups-requires
     loop-holds
     mul-scaled

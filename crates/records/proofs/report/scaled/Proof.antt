@@ -3,6 +3,9 @@ use borrow.Author.Needs.{needs}
 use Rattle.records.proofs.report.scaled.Statement.{statement}
 use Rattle.records.proofs.report.scaled.Tie as tie
 
+add-result : tie.Need-add-result
+add-result c = search needs
+
 mul-result : tie.Need-mul-result
 mul-result c = search needs
 
@@ -13,4 +16,4 @@ returns : tie.Need-returns
 returns c = search needs
 
 pub scaled-spec : {M : Type 1} → statement M
-scaled-spec = tie.close (tie.spec mul-result cast-result returns)
+scaled-spec = tie.close (tie.spec add-result mul-result cast-result returns)
