@@ -1,5 +1,6 @@
 //! What a script reaches: how often each refusal, indication, state and accepted message occurs.
 
+use crate::mean_count;
 use crate::messages::{Body, Kind, Message};
 use crate::refusal::{self, Refusal};
 use crate::run_count::Runs;
@@ -151,6 +152,7 @@ impl Counts {
         let validations = Validations::new(config, &mut table);
         let spreads = Spreads::new(&mut table);
         let runs = Runs::new(config, &mut table);
+        mean_count::rows(&mut table);
         Counts { table, validations, spreads, runs }
     }
 
@@ -206,6 +208,7 @@ impl Counts {
         self.validations.event(&mut self.table, event, before, after, outcome);
         self.spreads.event(&mut self.table, event, before, after, outcome);
         self.runs.event(&mut self.table, event, before, outcome);
+        mean_count::event(&mut self.table, after, outcome);
     }
 
     fn states(&mut self, after: &Station) {

@@ -381,8 +381,11 @@ impl Generator {
             let random = self.random.octets();
             frames.push(Body::MnbcSound { run, count, random }.broadcast(car));
         }
-        let ten = is_long && self.random.chance(5);
-        let profiles = if ten { 10 } else { 1 + self.random.below(8) / 6 };
+        let profiles = match (is_long, self.random.below(100)) {
+            (true, 0..=4) => 10,
+            (true, 5..=24) => 2 + self.random.below(8),
+            _ => 1 + self.random.below(8) / 6,
+        };
         frames.extend((0..profiles).map(|_| self.profile(car).send(modem, station)));
         let query = (profiles == 10).then_some(Planned::Query(car));
         frames.into_iter().map(Planned::Frame).chain(query).collect()

@@ -10,6 +10,7 @@ mod car_tests;
 mod compare;
 mod count;
 mod generate;
+mod mean_count;
 mod messages;
 mod random;
 mod refusal;

@@ -481,12 +481,18 @@ impl Record {
     }
 
     /// The ATTEN_CHAR.IND: "profiles counted, and for each group the sum divided by that count,
-    /// rounded down".
+    /// rounded to the nearest whole number, a half upwards".
     fn report(&self) -> Body {
         let octet = |value: u16| u8::try_from(value).unwrap_or(u8::MAX);
-        let groups = self.sums.map(|sum| octet(sum / self.profiles.max(1)));
+        let groups = self.sums.map(|sum| octet(mean(sum, self.profiles)));
         Body::AttenChar { run: self.run, sounds: octet(self.profiles), groups }
     }
+}
+
+/// The mean of so many values, at least one, rounded to the nearest, a half upwards.
+pub fn mean(sum: u16, count: u16) -> u16 {
+    let count = count.max(1);
+    (2 * sum + count) / (2 * count)
 }
 
 /// A confirmation that a tick sends: to whom, with which toggles and result.

@@ -5,7 +5,7 @@ use crate::refusal::Refusal;
 use crate::script::{write_head, Event};
 use crate::station::{Answer, Config, Indication, Phase, Pilot, Service, State, Station, Step};
 use crate::station::{LEAST_OUTPUT, RECORDS};
-use crate::{compare, count, generate, show, validation_count};
+use crate::{compare, count, generate, show, station, validation_count};
 
 const fn address(last: u8) -> Address {
     Address([2, 0, 0, 0, 0, last])
@@ -276,11 +276,32 @@ fn p3_to_p6_lengths() {
 }
 
 #[test]
-fn p7_the_report_is_the_mean_rounded_down() {
+fn p7_the_report_is_the_nearest_mean() {
     let mut bench = Bench::sounding();
     assert_eq!((bench.profile(CAR, 10), bench.profile(CAR, 11)), (NOTHING, NOTHING));
-    assert_eq!(bench.tick(600), replies(&[report(CAR, 2, 10)]));
+    assert_eq!(bench.tick(600), replies(&[report(CAR, 2, 11)]));
     assert_eq!(bench.phase(CAR), Some((Phase::Reported { retries: 2 }, 200)));
+}
+
+#[test]
+fn the_mean_is_the_nearest_and_a_half_goes_up() {
+    for count in 1..=16_u32 {
+        for sum in 0..=255 * count {
+            let mean = u32::from(station::mean(sum as u16, count as u16));
+            let off = (count * mean).abs_diff(sum);
+            assert!(2 * off <= count && mean <= 255);
+            assert!(2 * off < count || count * mean > sum, "{sum} by {count}");
+        }
+    }
+    // Each group by itself, with values that differ.
+    let mut bench = Bench::sounding();
+    for values in [[10, 10, 0, 255, 1], [11, 10, 1, 255, 0], [11, 11, 0, 254, 0]] {
+        let groups = std::array::from_fn(|group| values[group % 5]);
+        assert_eq!(bench.hear(Body::AttenProfile { car: CAR, groups }.send(MODEM, US)), NOTHING);
+    }
+    let groups = std::array::from_fn(|group| [11, 10, 0, 255, 0][group % 5]);
+    let report = Body::AttenChar { run: RUN, sounds: 3, groups }.send(US, CAR);
+    assert_eq!((bench.tick(600), bench.tick(200)), (replies(&[report]), replies(&[report])));
 }
 
 #[test]
@@ -524,7 +545,7 @@ fn sounding() {
         assert_eq!(bench.profile(CAR, 255), NOTHING);
         assert_eq!(bench.service(CAR), service(2, 255, 255));
     }
-    assert_eq!(bench.profile(CAR, 250), replies(&[report(CAR, 10, 254)]));
+    assert_eq!(bench.profile(CAR, 250), replies(&[report(CAR, 10, 255)]));
     assert_eq!(bench.phase(CAR), Some((Phase::Reported { retries: 2 }, 200)));
     assert_eq!((bench.profile(CAR, 1), bench.car(START)), (Err(12), Err(12)));
     assert_eq!((bench.car(RESPONSE), bench.car(RESPONSE)), (NOTHING, Err(12)));
@@ -909,8 +930,8 @@ fn random_scripts_come_from_their_seed_and_compare_equal() {
 /// Seeds and how many events of them. The first is covered, and reaches every row but 16 and those
 /// of a station that doesn't require validation; the second is covered and reaches these; the
 /// third has a bad configuration.
-const FULL: (u64, u32) = (11, 2_800);
-const EXEMPT: (u64, u32) = (25, 700);
+const FULL: (u64, u32) = (28, 2_700);
+const EXEMPT: (u64, u32) = (9, 700);
 const BAD: (u64, u32) = (56, 250);
 
 fn random_script(seed: u64, events: u32) -> Vec<u8> {
