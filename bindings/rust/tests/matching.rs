@@ -106,8 +106,8 @@ fn a_whole_matching() {
     assert!(nothing(bench.hear(&car.sound(9))));
     let report = bench.replies(&frames::profile(MODEM, STATION, car.address, 21));
     assert_eq!((report.len(), report[0].len()), (1, REPORT_OCTETS));
-    assert_eq!((report[0][19 + 50], report[0][19 + 52]), (10, 14));
-    assert_eq!(frames::reported(report[0]), Some([14; GROUPS]));
+    assert_eq!((report[0][19 + 50], report[0][19 + 52]), (10, 15));
+    assert_eq!(frames::reported(report[0]), Some([15; GROUPS]));
     assert_eq!(bench.station.query(car.address), Ok(even(10, 10, 21)));
     assert!(nothing(bench.hear(&car.rsp(STATION))));
     let confirmed = bench.replies(&car.match_req(STATION));
