@@ -1,0 +1,13 @@
+pub mod RuleLaws
+pub mod NumberLaws
+pub mod ItemLaws
+pub mod GivenLaws
+pub mod LogLaws
+pub mod RoundTrips
+pub mod WalkLaws
+pub mod ReadLaws
+pub mod JudgeLaws
+pub mod WriteLaws
+pub mod PutLaws
+pub mod Causes
+pub mod Distinct
