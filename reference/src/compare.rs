@@ -19,6 +19,7 @@ pub fn compare(one: impl Read, other: impl Read) -> io::Result<Result<String, St
     for event in 1u64.. {
         let (a, b) = (Answer::take(&mut one)?, Answer::take(&mut other)?);
         if a != b {
+            let words = |answer: &Option<Answer>| answer.as_ref().map_or("no answer".into(), words);
             return differ(format!("event {event}"), words(&a), words(&b));
         }
         if a.is_none() {
@@ -36,8 +37,8 @@ pub fn refused(number: u32) -> String {
     }
 }
 
-fn words(answer: &Option<Answer>) -> String {
-    let Some(Answer { refusal, indication, octets }) = answer else { return "no answer".into() };
+/// An answer in words.
+pub fn words(Answer { refusal, indication, octets }: &Answer) -> String {
     let given = match octets[..] {
         _ if Message::read_all(octets).0.is_empty() && spread(octets).is_some() => service(octets),
         [a, b, c, d, e, f, ref key @ ..] if octets.len() == KEY => {

@@ -92,6 +92,25 @@ pub fn generate(seed: u64, events: u32, script: &mut impl Write) -> io::Result<(
     Ok(())
 }
 
+/// A session for a log: its configuration and so many events, with no query and with the least
+/// output that the calls ask for.
+pub fn session(seed: u64, events: u32) -> (Config, Vec<Event>) {
+    let mut generator = Generator::new(Random::new(seed));
+    let (config, mut session) = (generator.written_config(), Vec::new());
+    while session.len() < events as usize {
+        let mut event = generator.event();
+        match &mut event {
+            Event::Query { .. } => continue,
+            Event::Frame { room, .. } | Event::Tick { room, .. } => *room = LEAST_OUTPUT,
+            _ => {}
+        }
+        // The answer is in the station's next state.
+        let _ = event.happen(&mut generator.station);
+        session.push(event);
+    }
+    (config, session)
+}
+
 /// `cover SEED EVENTS`: as `generate` with a good configuration, but of several ways on it takes
 /// the one that reaches most rows of the table.
 pub fn cover(seed: u64, events: u32, script: &mut impl Write) -> io::Result<()> {

@@ -10,10 +10,15 @@ mod car_tests;
 mod compare;
 mod count;
 mod generate;
+mod log;
+mod log_count;
+#[cfg(test)]
+mod log_tests;
 mod mean_count;
 mod messages;
 mod random;
 mod refusal;
+mod replay;
 mod run_count;
 mod script;
 mod show;
@@ -34,6 +39,8 @@ use std::process::ExitCode;
 
 const USAGE: &str = "usage: reference run | show [REPLIES] | count (a script on standard input) \
                      | generate SEED EVENTS | cover SEED EVENTS | demo | compare A B \
+                     | log SEED EVENTS | replay | log-count (a log on standard input) \
+                     | damage-log CAUSE SEED | change-log EVENT SEED (a log on standard input) \
                      | car-run | car-count (a car's script on standard input) \
                      | car-generate SEED EVENTS";
 
@@ -55,6 +62,14 @@ fn main() -> ExitCode {
         (["cover", seed, events], _) => numbers(seed, events)
             .and_then(|(seed, events)| generate::cover(seed, events, &mut out))
             .map(|()| true),
+        (["log", seed, events], _) => numbers(seed, events)
+            .and_then(|(seed, events)| replay::log(seed, events))
+            .and_then(|log| out.write_all(&log))
+            .map(|()| true),
+        (["replay"], _) => replay_log(input, &mut out),
+        (["log-count"], _) => count_log(input, &mut out),
+        (["damage-log", cause, seed], _) => rewrite(input, (seed, cause), replay::damage, &mut out),
+        (["change-log", event, seed], _) => rewrite(input, (seed, event), replay::change, &mut out),
         (["car-run"], _) => car_run(input, &mut out),
         (["car-count"], _) => car_count(input, &mut out),
         (["car-generate", seed, events], _) => numbers(seed, events)
@@ -79,7 +94,7 @@ fn main() -> ExitCode {
 fn numbers(seed: &str, events: &str) -> io::Result<(u64, u32)> {
     match (seed.parse(), events.parse()) {
         (Ok(seed), Ok(events)) => Ok((seed, events)),
-        _ => Err(io::Error::other("SEED and EVENTS are numbers")),
+        _ => Err(io::Error::other("an argument that is no number")),
     }
 }
 
@@ -168,6 +183,45 @@ fn car_count(input: impl Read, out: &mut impl Write) -> io::Result<bool> {
         counts.event(&event, &before, &car, &outcome);
     }
     write!(out, "{counts}")?;
+    Ok(true)
+}
+
+/// The whole of a log.
+fn take_log(mut input: impl Read) -> io::Result<Vec<u8>> {
+    let mut log = Vec::new();
+    input.read_to_end(&mut log)?;
+    Ok(log)
+}
+
+/// `log-count`: a table of what the log reaches.
+fn count_log(input: impl Read, out: &mut impl Write) -> io::Result<bool> {
+    let mut counts = log_count::Counts::new();
+    counts.log(&take_log(input)?);
+    write!(out, "{counts}")?;
+    Ok(true)
+}
+
+/// `replay`: the number of the first event that differs, 0, or minus the cause; for a person, what
+/// differs, on standard error.
+fn replay_log(input: impl Read, out: &mut impl Write) -> io::Result<bool> {
+    let found = replay::replay(&take_log(input)?);
+    writeln!(out, "{}", found.number())?;
+    if let replay::Found::Difference { event, recorded, came } = &found {
+        let (recorded, came) = (compare::words(recorded), compare::words(came));
+        writeln!(io::stderr(), "event {event}: recorded {recorded} | came {came}")?;
+    }
+    Ok(true)
+}
+
+/// `damage-log` and `change-log`: writes a log anew.
+fn rewrite(
+    input: impl Read,
+    (seed, what): (&str, &str),
+    rewritten: fn(&[u8], u32, u64) -> io::Result<Vec<u8>>,
+    out: &mut impl Write,
+) -> io::Result<bool> {
+    let (seed, what) = numbers(seed, what)?;
+    out.write_all(&rewritten(&take_log(input)?, what, seed)?)?;
     Ok(true)
 }
 

@@ -86,14 +86,39 @@ impl Event {
         Ok((accepted.indication, output))
     }
 
+    /// The event's kind, reading and octets, as scripts and logs have them.
+    pub fn parts(&self) -> (u32, u32, &[u8]) {
+        match self {
+            Event::Frame { octets, .. } => (0, 0, octets),
+            Event::Tick { reading, .. } => (1, *reading, &[]),
+            Event::Pilot { to, reading } => (2, *reading, to.octet()),
+            Event::Terminate => (3, 0, &[]),
+            Event::LinkUp => (4, 0, &[]),
+            Event::Query { car } => (5, 0, &car.0),
+        }
+    }
+
+    /// The event with these parts and that room, unless it breaks the layout.
+    pub fn of(kind: u32, reading: u32, room: usize, octets: Vec<u8>) -> io::Result<Event> {
+        Ok(match (kind, &octets[..]) {
+            (0, _) => Event::Frame { octets, room },
+            (1, []) => Event::Tick { reading, room },
+            (2, [pilot]) => match Pilot::ALL.get(usize::from(*pilot)) {
+                Some(to) => Event::Pilot { to: *to, reading },
+                None => return Err(broken("a pilot state over 5")),
+            },
+            (3, []) => Event::Terminate,
+            (4, []) => Event::LinkUp,
+            (5, &[a, b, c, d, e, f]) => Event::Query { car: Address([a, b, c, d, e, f]) },
+            _ => return Err(broken_event(kind)),
+        })
+    }
+
     pub fn write(&self, script: &mut impl Write) -> io::Result<()> {
-        let (kind, reading, room, octets) = match self {
-            Event::Frame { octets, room } => (0, 0, *room, &octets[..]),
-            Event::Tick { reading, room } => (1, *reading, *room, &[][..]),
-            Event::Pilot { to, reading } => (2, *reading, 0, &[*to as u8][..]),
-            Event::Terminate => (3, 0, 0, &[][..]),
-            Event::LinkUp => (4, 0, 0, &[][..]),
-            Event::Query { car } => (5, 0, 0, &car.0[..]),
+        let (kind, reading, octets) = self.parts();
+        let room = match self {
+            Event::Frame { room, .. } | Event::Tick { room, .. } => *room,
+            _ => 0,
         };
         write_entry(script, kind, reading, room, octets)
     }
@@ -268,18 +293,6 @@ impl<R: Read> Script<R> {
     pub fn next_event(&mut self) -> io::Result<Option<Event>> {
         let Some(entry) = self.entries.next_entry()? else { return Ok(None) };
         let Entry { kind, reading, room, octets } = entry;
-        let event = match (kind, &octets[..]) {
-            (0, _) => Event::Frame { octets, room },
-            (1, []) => Event::Tick { reading, room },
-            (2, [pilot]) => match Pilot::ALL.get(usize::from(*pilot)) {
-                Some(to) => Event::Pilot { to: *to, reading },
-                None => return Err(broken("a pilot state over 5")),
-            },
-            (3, []) => Event::Terminate,
-            (4, []) => Event::LinkUp,
-            (5, &[a, b, c, d, e, f]) => Event::Query { car: Address([a, b, c, d, e, f]) },
-            _ => return Err(broken_event(kind)),
-        };
-        Ok(Some(event))
+        Event::of(kind, reading, room, octets).map(Some)
     }
 }

@@ -46,6 +46,18 @@ pub enum Pilot {
 impl Pilot {
     pub const ALL: [Pilot; 6] = [Pilot::A, Pilot::B, Pilot::C, Pilot::D, Pilot::E, Pilot::F];
 
+    /// The state as scripts and logs have it: 0 to 5 for A to F.
+    pub fn octet(self) -> &'static [u8] {
+        match self {
+            Pilot::A => &[0],
+            Pilot::B => &[1],
+            Pilot::C => &[2],
+            Pilot::D => &[3],
+            Pilot::E => &[4],
+            Pilot::F => &[5],
+        }
+    }
+
     /// B, C or D: a car is plugged in.
     pub fn is_plugged(self) -> bool {
         matches!(self, Pilot::B | Pilot::C | Pilot::D)
