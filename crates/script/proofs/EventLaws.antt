@@ -15,7 +15,7 @@ use Rattle.ends.specs.Answers.{Summary, summary}
 use Rattle.ends.specs.Outcomes.{Outcome}
 use Rattle.script.specs.Events.{eventOctets, mostOctets, kindIn, readingIn, roomIn, lengthIn, isSized, eventIn}
 use Rattle.script.specs.Replies.{number, longestReply, refusalNumber}
-use Rattle.script.specs.Ends.{StartsAs, carriedOut}
+use Rattle.script.specs.Ends.{StartsAs, carriedOutAs, carriedOut}
 use Rattle.script.specs.Private.{RoomReady}
 
 -- ---- the octets of an event
@@ -59,6 +59,60 @@ module _ (e out : List ℕ) {b : Bool} (s : b ≡ isSized e) where
       ready = record { kept = k; output = leb-true longestReply (length out) (and-left (leb longestReply (length out)) b (not-false _ g)) };
       room = leb-true (roomIn e) mostOctets (and-left (leb (roomIn e) mostOctets) _ (and-left (leb (roomIn e) mostOctets && leb (lengthIn e) mostOctets) _ sized));
     }
+
+-- ---- an event by its kind, reading, room and octets
+
+-- a room and an output, as the code tests them
+module _ (room : ℕ) (out : List ℕ) where
+  abbrev fits : Bool
+  fits = leb longestReply (length out) && leb room mostOctets
+
+  -- none is carried out
+  pub none-fits : {A : Type 0} (kinds : ℕ → ℕ → List ℕ → List (Option A)) (k t : ℕ) (s : List ℕ) → not fits ≡ true → carriedOutAs kinds k t room s (length out) ≡ none
+  none-fits kinds k t s g = ap (λ (d : Bool). cond d (getD (kinds t room s) k none) none) (not-true fits g)
+
+  module _ (g : not fits ≡ false) where
+    -- one is
+    pub one-fits : {A : Type 0} (kinds : ℕ → ℕ → List ℕ → List (Option A)) (k t : ℕ) (s : List ℕ) → carriedOutAs kinds k t room s (length out) ≡ getD (kinds t room s) k none
+    one-fits kinds k t s = ap (λ (d : Bool). cond d (getD (kinds t room s) k none) none) (not-false fits g)
+
+    -- the room is at most 4,096, and the output long enough
+    pub fits-ready : {K : Type 0} → K → RoomReady K room out
+    fits-ready k = record {
+      ready = record { kept = k; output = leb-true longestReply (length out) (and-left (leb longestReply (length out)) (leb room mostOctets) (not-false fits g)) };
+      room = leb-true room mostOctets (and-right (leb longestReply (length out)) (leb room mostOctets) (not-false fits g));
+    }
+
+-- the octets e of an event, as the code tests them
+module _ (e : List ℕ) {b : Bool} (s : b ≡ isSized e) where
+  pub unsized : {A : Type 0} (kinds : ℕ → ℕ → List ℕ → List (Option A)) (n : ℕ) → not b ≡ true → carriedOut kinds e n ≡ none
+  unfolding eventIn
+  unsized kinds n g =
+      ap (λ (d : Bool). cond (leb longestReply n) (cond d (ofKind kinds e (drop eventOctets e)) none) none) (sym s ∙ not-true _ g)
+      ∙ both (leb longestReply n) false (ofKind kinds e (drop eventOctets e)) none
+      ∙ none-left (leb longestReply n) (ofKind kinds e (drop eventOctets e))
+    where
+      none-left : {A : Type 0} (d : Bool) (x : Option A) → cond (d && false) x none ≡ none
+      none-left true x = refl
+      none-left false x = refl
+
+  module _ (g : not b ≡ false) where
+    right : isSized e ≡ true
+    right = sym s ∙ not-false _ g
+
+    -- it has its first octets
+    pub sized-length : eventOctets ≤ length e
+    sized-length = omega (arith, eqb-true (length e) (eventOctets + lengthIn e) (and-right (leb (roomIn e) mostOctets && leb (lengthIn e) mostOctets) _ right))
+
+    -- it is the event of its kind, reading, room and octets
+    pub sized-as : {A : Type 0} (kinds : ℕ → ℕ → List ℕ → List (Option A)) (n : ℕ) → carriedOut kinds e n ≡ carriedOutAs kinds (kindIn e) (readingIn e) (roomIn e) (take (length e - eventOctets) (drop eventOctets e)) n
+    unfolding eventIn
+    sized-as kinds n =
+        let x = ofKind kinds e (drop eventOctets e) in
+        let few : leb (roomIn e) mostOctets ≡ true = and-left (leb (roomIn e) mostOctets) _ (and-left (leb (roomIn e) mostOctets && leb (lengthIn e) mostOctets) _ right) in
+        ap (λ (d : Bool). cond (leb longestReply n) (cond d x none) none) (right ∙ sym few)
+        ∙ both (leb longestReply n) (leb (roomIn e) mostOctets) x none
+        ∙ ap (λ (l : List ℕ). carriedOutAs kinds (kindIn e) (readingIn e) (roomIn e) l n) (sym (lent-part eventOctets e))
 
 -- ---- the head
 

@@ -1,14 +1,14 @@
 -- What starting a script and carrying an event out leave at either end, of a station or of a car.
 use Prim.Native.Nat.{ℕ}
 use mathlib.Core.Path.{_≡_}
-use mathlib.Core.Bool.{cond}
+use mathlib.Core.Bool.{cond, _&&_}
 use mathlib.Core.List.{List, []}
 use mathlib.Core.Option.{Option, none, some}
 use lib.Dec.{leb}
-use lib.ListN.{length}
+use lib.ListN.{length, getD}
 use Rattle.octets.specs.Octets.{splice}
 use Rattle.ends.specs.Outcomes.{Outcome}
-use Rattle.script.specs.Events.{Event, call, query, eventIn}
+use Rattle.script.specs.Events.{Event, call, query, mostOctets, eventIn}
 use Rattle.script.specs.Replies.{number, longestReply, refusalNumber}
 
 -- s is the first station or car, and the octets are those of the answer to configuring, whose outcome is y
@@ -16,6 +16,10 @@ pub record StartsAs {S : Type 0} (Kept : S → Type 0) (first : S) (y : Outcome)
   pub left : s ≡ first
   pub answer : octets ≡ number (refusalNumber y)
   pub kept : Kept s
+
+-- the event of the kind k with a reading, a room and the octets s, with an output of n octets: none is carried out where the longest reply would not fit, or where the room is over the most octets
+abbrev pub carriedOutAs : {A : Type 0} → (ℕ → ℕ → List ℕ → List (Option A)) → (k t room : ℕ) → List ℕ → ℕ → Option A
+carriedOutAs kinds k t room s n = cond (leb longestReply n && leb room mostOctets) (getD (kinds t room s) k none) none
 
 -- the event that the octets e are, with an output of n octets: none is carried out where the longest reply would not fit
 abbrev pub carriedOut : {A : Type 0} → (ℕ → ℕ → List ℕ → List (Option A)) → List ℕ → ℕ → Option A

@@ -6,6 +6,7 @@ mod numbers;
 pub mod of_car;
 mod replies;
 
+use events::EventHead;
 use messages::ModemAddress;
 use messages::Nid;
 use messages::Nmk;
@@ -14,7 +15,7 @@ use rules::Station;
 ghost use mathlib.Core.Path.{_≡_};
 ghost use lib.ListN.{length};
 ghost use Rattle.rules.specs.Invariant.{Invariant};
-ghost use Rattle.script.specs.Ends.{carriedOut};
+ghost use Rattle.script.specs.Ends.{carriedOutAs, carriedOut};
 ghost use Rattle.script.specs.Events.{lengthIn};
 ghost use Rattle.script.specs.Layout.{countIn, kinds};
 ghost use Rattle.script.specs.Promises.{Starts, Happens};
@@ -88,15 +89,46 @@ pub fn event_length(event: &[u8]) -> u64
     octets::low_number_at(event, 12, 4)
 }
 
+// Carries out the event of a kind with a reading, a room and octets: its reply stands from the output's first octet. An event that
+// is of no kind does nothing, and so does a room over 4,096 or an output that is shorter than the longest reply.
+pub fn carry_out(
+    station: Station,
+    kind: u64,
+    reading: u32,
+    room: usize,
+    octets: &[u8],
+    out: &mut [u8],
+) -> Happened
+    requires { ⌜ Invariant station ⌝ }
+    ensures { λ r. ⌜ Happens station (carriedOutAs kinds kind reading room (now (octets .entry)) (length (now (out .entry)))) (now (out .entry)) (now (out .exit)) r ⌝ }
+{
+    if !((LONGEST_REPLY <= out.len()) & (room <= MOST_OCTETS)) {
+        return doing::nothing(station);
+    }
+    let head = EventHead {
+        kind: kind,
+        reading: reading,
+        room: room,
+    };
+    doing::of_kind(station, head, octets, out)
+}
+
 // Carries an event out: its reply stands from the output's first octet. Octets that break the layout do nothing, and so does
 // an output that is shorter than the longest reply.
 pub fn event(station: Station, event: &[u8], out: &mut [u8]) -> Happened
     requires { ⌜ Invariant station ⌝ }
     ensures { λ r. ⌜ Happens station (carriedOut kinds (now (event .entry)) (length (now (out .entry)))) (now (out .entry)) (now (out .exit)) r ⌝ }
 {
-    if !((LONGEST_REPLY <= out.len()) & events::is_sized(event)) {
+    if !events::is_sized(event) {
         return doing::nothing(station);
     }
     let head = events::head_of(event);
-    doing::of_kind(station, head, &event[EVENT_OCTETS..], out)
+    carry_out(
+        station,
+        head.kind,
+        head.reading,
+        head.room,
+        &event[EVENT_OCTETS..],
+        out,
+    )
 }

@@ -1,8 +1,9 @@
--- The test; then by the kind.
+-- The test; then by kind, reading, room and octets.
 use native.Mathlib.Omega.{arith}
 use Rattle.script.specs.Layout.{kinds}
 use Rattle.script.proofs.CallLaws.{nothing-done}
-use Rattle.script.proofs.EventLaws.{carried, carried-length, carried-ready, not-carried}
+use Rattle.script.proofs.EventLaws.{unsized, sized-length, sized-as}
+use lib.ListN.{length}
 use borrow.Author.Needs.{needs}
 use Rattle.script.proofs.event.Statement.{statement}
 use Rattle.script.proofs.event.Tie as tie
@@ -16,29 +17,27 @@ nothing-requires c κs = search needs
 returns : tie.Need-returns
 returns c =
     let s = c .before .before .before .before .before in
-    rw (not-carried (s .args .event .now) (s .args .out .now) (c .before .before .is-sized .ensures) kinds (c .before .if1 .taken))
+    rw (unsized (s .args .event .now) (c .before .before .is-sized .ensures) kinds (length (s .args .out .now)) (c .before .if1 .taken))
     (nothing-done (s .pre) (c .nothing .ensures))
 
 head-of-requires : tie.Need-head-of-requires
 head-of-requires c κs = search needs
 
-sub-of-kind : tie.Need-sub-of-kind
-sub-of-kind c =
+sub-carry-out : tie.Need-sub-carry-out
+sub-carry-out c =
     let s = c .before .before .before .before .before in
-    omega (arith, carried-length (s .args .event .now) (s .args .out .now) (c .before .before .is-sized .ensures) (c .before .if1 .left))
+    omega (arith, sized-length (s .args .event .now) (c .before .before .is-sized .ensures) (c .before .if1 .left))
 
-part-of-kind-start : tie.Need-part-of-kind-start
-part-of-kind-start c =
+part-carry-out-start : tie.Need-part-carry-out-start
+part-carry-out-start c =
     let s = c .before .before .before .before .before in
-    omega (arith, carried-length (s .args .event .now) (s .args .out .now) (c .before .before .is-sized .ensures) (c .before .if1 .left))
+    omega (arith, sized-length (s .args .event .now) (c .before .before .is-sized .ensures) (c .before .if1 .left))
 
-part-of-kind-end : tie.Need-part-of-kind-end
-part-of-kind-end c = search needs
+part-carry-out-end : tie.Need-part-carry-out-end
+part-carry-out-end c = search needs
 
-of-kind-requires : tie.Need-of-kind-requires
-of-kind-requires c κs =
-    let s = c .before .before .before .before .before .before .before in
-    rw (c .before .before .head-of .ensures) (carried-ready (s .args .event .now) (s .args .out .now) (c .before .before .before .before .is-sized .ensures) (c .before .before .before .if1 .left) (s .pre))
+carry-out-requires : tie.Need-carry-out-requires
+carry-out-requires c κs = search needs
 
 same-length : tie.Need-same-length
 same-length c = search needs
@@ -46,8 +45,8 @@ same-length c = search needs
 returns-2 : tie.Need-returns-2
 returns-2 c =
     let s = c .before .before .before .before .before .before .before .before .before .before in
-    rw (carried (s .args .event .now) (s .args .out .now) (c .before .before .before .before .before .before .before .is-sized .ensures) (c .before .before .before .before .before .before .if1 .left) kinds)
-    (rw (c .before .before .before .before .before .head-of .ensures) at (c .before .before .of-kind .ensures))
+    rw (sized-as (s .args .event .now) (c .before .before .before .before .before .before .before .is-sized .ensures) (c .before .before .before .before .before .before .if1 .left) kinds (length (s .args .out .now)))
+    (rw (c .before .before .before .before .before .head-of .ensures) at (c .before .before .carry-out .ensures))
 
 pub event-spec : {M : Type 1} → statement M
 event-spec =
@@ -57,9 +56,9 @@ event-spec =
     nothing-requires
     returns
     head-of-requires
-    sub-of-kind
-    part-of-kind-start
-    part-of-kind-end
-    of-kind-requires
+    sub-carry-out
+    part-carry-out-start
+    part-carry-out-end
+    carry-out-requires
     same-length
     returns-2)
