@@ -1,10 +1,12 @@
 /*
  * A driver loop, in C11: interrupts put frames, clock readings and pilot states into a small queue; the loop takes them out
  * one by one, hands them to the station, and puts the replies into a send queue. Here two simulated cars stand in for the
- * line: one matches with this station, the other is heard as well but matches with the next station.
+ * line: one matches with this station, the other is heard as well but matches with the next station. With `--log FILE` the
+ * session's log is in that file at the end, for the program `replay`.
  */
 #include "car_frames.h"
 #include "lahzavar.h"
+#include "session_log.h"
 
 #include <stdatomic.h>
 #include <stdio.h>
@@ -43,6 +45,8 @@ static uint8_t output[LAHZAVAR_LEAST_OUTPUT];
 static enum lahzavar_pilot_state pilot_now = LAHZAVAR_PILOT_A;
 static uint32_t last_indication;
 static unsigned refused[REFUSALS]; /* by number; the last one counts those of a later library */
+static struct session_log session;
+static uint8_t session_octets[SESSION_LOG_MOST]; /* they hold the NMK, as the station does */
 
 static const uint8_t our_address[6] = {2, 0, 0, 0, 0, 0xAA};
 static const uint8_t our_modem[6] = {2, 0, 0, 0, 0, 0xBB};
@@ -163,17 +167,43 @@ static int is_timed(void)
     return state == LAHZAVAR_MATCHING || state == LAHZAVAR_JOINING;
 }
 
+static void handle_frame(const uint8_t *octets, size_t length)
+{
+    struct lahzavar_answer answer = lahzavar_station_frame(&station, octets, length, output, sizeof output);
+    session_log_frame(&session, octets, length, answer, output);
+    obey(answer);
+}
+
+static void handle_pilot(enum lahzavar_pilot_state pilot, uint32_t reading)
+{
+    struct lahzavar_answer answer = lahzavar_station_pilot(&station, pilot, reading);
+    session_log_pilot(&session, pilot, reading, answer);
+    obey(answer);
+}
+
+static void handle_link_up(void)
+{
+    struct lahzavar_answer answer = lahzavar_station_link_up(&station);
+    session_log_link_up(&session, answer);
+    obey(answer);
+}
+
 /*
  * The clock goes on. After a gap of more than 60 seconds in a matching it is not known what happened meanwhile, so that it
- * ends and begins anew; else the gap does no harm, since the next plug-in or loss takes a reading.
+ * ends and begins anew; else the gap does no harm, since the next plug-in or loss takes a reading. For the same reason the
+ * log needs no ticks while no time runs; with them it would be full before a car comes.
  */
 static void handle_clock(uint32_t reading)
 {
+    int timed = is_timed();
     struct lahzavar_answer answer = lahzavar_station_tick(&station, reading, output, sizeof output);
+    if (timed) {
+        session_log_tick(&session, reading, answer, output);
+    }
     obey(answer);
-    if (answer.refusal == LAHZAVAR_TICK_GAP && is_timed()) {
-        obey(lahzavar_station_pilot(&station, LAHZAVAR_PILOT_A, reading));
-        obey(lahzavar_station_pilot(&station, pilot_now, reading));
+    if (answer.refusal == LAHZAVAR_TICK_GAP && timed) {
+        handle_pilot(LAHZAVAR_PILOT_A, reading);
+        handle_pilot(pilot_now, reading);
     }
 }
 
@@ -181,17 +211,17 @@ static void handle(const struct event *event)
 {
     switch (event->kind) {
     case EVENT_FRAME:
-        obey(lahzavar_station_frame(&station, event->octets, event->length, output, sizeof output));
+        handle_frame(event->octets, event->length);
         break;
     case EVENT_CLOCK:
         handle_clock(event->reading);
         break;
     case EVENT_PILOT: /* every change, also among B, C and D: a car may validate by them */
         pilot_now = event->pilot;
-        obey(lahzavar_station_pilot(&station, event->pilot, event->reading));
+        handle_pilot(event->pilot, event->reading);
         break;
     default:
-        obey(lahzavar_station_link_up(&station));
+        handle_link_up();
         break;
     }
 }
@@ -206,15 +236,34 @@ static void handle_received(void)
     }
 }
 
-/* Configures the station, and tells it the pilot's state at once: so it takes the clock's reading, whatever that is. */
+/*
+ * Configures the station, begins its log, and tells it the pilot's state at once: so it takes the clock's reading, whatever
+ * that is.
+ */
 static struct lahzavar_answer start(uint32_t reading)
 {
+    uint64_t address = lahzavar_address(our_address), modem = lahzavar_address(our_modem), nid = lahzavar_nid(network_id);
     struct lahzavar_answer answer =
-        lahzavar_station_configure(&station, lahzavar_address(our_address), lahzavar_address(our_modem),
-                                   lahzavar_nid(network_id), network_key, VALIDATION_NOT_REQUIRED);
+        lahzavar_station_configure(&station, address, modem, nid, network_key, VALIDATION_NOT_REQUIRED);
+    session_log_begin(&session, session_octets, sizeof session_octets, address, modem, nid, network_key,
+                      VALIDATION_NOT_REQUIRED);
     obey(answer);
-    obey(lahzavar_station_pilot(&station, pilot_now, reading));
+    handle_pilot(pilot_now, reading);
     return answer;
+}
+
+/* Ends the session's log and writes it to a file. Gives whether that is done. */
+static int write_log(const char *name)
+{
+    size_t length = session_log_end(&session);
+    FILE *file = fopen(name, "wb");
+    int written = file != NULL && fwrite(session_octets, 1, length, file) == length;
+    if ((file != NULL && fclose(file) != 0) || !written) {
+        perror(name);
+        return 0;
+    }
+    fprintf(stderr, "%s: %u events%s\n", name, (unsigned)session.events, session.full ? ", and no room for more" : "");
+    return 1;
 }
 
 /* What was dropped and, by number, what was refused. */
@@ -307,9 +356,14 @@ static void run(void)
     }
 }
 
-int main(void)
+int main(int argc, char **argv)
 {
-    int linked;
+    const char *log_name = argc == 3 && strcmp(argv[1], "--log") == 0 ? argv[2] : NULL;
+    int linked, logged;
+    if (argc != 1 && log_name == NULL) {
+        fprintf(stderr, "usage: driver_loop [--log FILE]\n");
+        return 2;
+    }
     if (!lahzavar_library_fits()) {
         fprintf(stderr, "the library is not the one that lahzavar.h describes\n");
         return 1;
@@ -320,11 +374,12 @@ int main(void)
     run();
     linked = last_indication == LAHZAVAR_LINK_ESTABLISHED && lahzavar_station_state(&station) == LAHZAVAR_MATCHED;
     report();
+    logged = log_name == NULL || write_log(log_name);
     lahzavar_station_wipe(&station);
     if (!linked || dropped_by(&received) + dropped_by(&to_send) != 0) {
         fprintf(stderr, "no link\n");
         return 1;
     }
     printf("link established\n");
-    return 0;
+    return logged ? 0 : 1;
 }

@@ -1,14 +1,18 @@
 //! A station's driver loop: interrupts put frames, clock readings and pilot states into a small
 //! queue; the loop takes them out one by one, hands them to the station, and puts the replies into a
 //! send queue. Here a thread with two simulated cars stands in for the interrupts and the line: one
-//! car matches with this station, the other is heard as well but matches with the next station.
+//! car matches with this station, the other is heard as well but matches with the next station. With
+//! `--log FILE` the session's log is in that file at the end, for the program `replay`.
 
 mod frames;
+mod session_log;
 
 use frames::{Address, Car};
 use lahzavar::{Answer, Configuration, Done, Indication, Pilot, Refusal, State, Station};
 use lahzavar::{LEAST_OUTPUT, REPORT_OCTETS};
+use session_log::SessionLog;
 use std::collections::BTreeMap;
+use std::ffi::{OsStr, OsString};
 use std::process::ExitCode;
 use std::sync::mpsc::{sync_channel, Receiver, SyncSender};
 use std::thread;
@@ -85,34 +89,54 @@ fn log_spreads(station: &Station, answer: Answer) {
     }
 }
 
-/// The driver loop: ends with the first indication, or with the queue.
-fn drive(station: &mut Station, events: Receiver<Event>, outcome: &mut Outcome) {
+/// The driver loop: ends with the first indication, or with the queue. Each event goes into the log
+/// with its answer.
+fn drive(
+    station: &mut Station,
+    log: &mut SessionLog,
+    events: Receiver<Event>,
+    outcome: &mut Outcome,
+) {
     let (mut out, mut pilot_now) = ([0; LEAST_OUTPUT], Pilot::A);
     for event in events {
         match event {
             Event::Frame(octets) => {
                 let answer = station.frame(&octets, &mut out);
+                log.frame(&octets, answer);
                 log_spreads(station, answer);
                 outcome.obey(answer);
             }
             Event::Clock(reading) => {
+                let timed = matches!(station.state(), State::Matching | State::Joining);
                 let answer = station.tick(reading, &mut out);
-                log_spreads(station, answer);
-                outcome.obey(answer);
                 // After a gap of more than 60 seconds in a matching it is not known what happened
                 // meanwhile, so that it ends and begins anew; else the gap does no harm, since the
-                // next plug-in or loss takes a reading.
-                let timed = matches!(station.state(), State::Matching | State::Joining);
+                // next plug-in or loss takes a reading. For the same reason the log needs no ticks
+                // while no time runs; with them it would be full before a car comes.
+                if timed {
+                    log.tick(reading, answer);
+                }
+                log_spreads(station, answer);
+                outcome.obey(answer);
                 if answer == Err(Refusal::TickGap) && timed {
-                    outcome.obey(station.pilot(Pilot::A, reading));
-                    outcome.obey(station.pilot(pilot_now, reading));
+                    for pilot in [Pilot::A, pilot_now] {
+                        let answer = station.pilot(pilot, reading);
+                        log.pilot(pilot, reading, answer);
+                        outcome.obey(answer);
+                    }
                 }
             }
             Event::Pilot(pilot, reading) => {
                 pilot_now = pilot;
-                outcome.obey(station.pilot(pilot, reading));
+                let answer = station.pilot(pilot, reading);
+                log.pilot(pilot, reading, answer);
+                outcome.obey(answer);
             }
-            Event::LinkUp => outcome.obey(station.link_up()),
+            Event::LinkUp => {
+                let answer = station.link_up();
+                log.link_up(answer);
+                outcome.obey(answer);
+            }
         }
         if outcome.indication.is_some() {
             return;
@@ -157,7 +181,28 @@ fn line(events: &SyncSender<Event>, replies: &Receiver<Vec<u8>>) {
     }
 }
 
+/// Writes the session's log to a file. Gives whether that is done.
+fn write_log(log: &SessionLog, name: &OsStr) -> bool {
+    let name = std::path::Path::new(name);
+    let written = std::fs::write(name, log.octets());
+    let more = if log.is_full() { ", and no room for more" } else { "" };
+    match &written {
+        Ok(()) => eprintln!("{}: {} events{more}", name.display(), log.count()),
+        Err(error) => eprintln!("{}: {error}", name.display()),
+    }
+    written.is_ok()
+}
+
 fn main() -> ExitCode {
+    let arguments: Vec<OsString> = std::env::args_os().skip(1).collect();
+    let log_name = match &arguments[..] {
+        [] => None,
+        [option, name] if option == "--log" => Some(name),
+        _ => {
+            eprintln!("usage: station [--log FILE]");
+            return ExitCode::from(2);
+        }
+    };
     let configuration = Configuration {
         address: STATION,
         modem: MODEM,
@@ -172,16 +217,22 @@ fn main() -> ExitCode {
             return ExitCode::FAILURE;
         }
     };
+    let mut log = SessionLog::new(&configuration);
     let (put, events) = sync_channel(32);
     let (send, replies) = sync_channel(32);
     thread::spawn(move || line(&put, &replies));
     let mut outcome = Outcome { send, indication: None, refusals: BTreeMap::new() };
-    drive(&mut station, events, &mut outcome);
+    drive(&mut station, &mut log, events, &mut outcome);
     outcome.report();
-    if outcome.indication == Some(Indication::LinkEstablished) {
-        println!("link established");
-        return ExitCode::SUCCESS;
+    let logged = log_name.is_none_or(|name| write_log(&log, name));
+    if outcome.indication != Some(Indication::LinkEstablished) {
+        eprintln!("no link");
+        return ExitCode::FAILURE;
     }
-    eprintln!("no link");
-    ExitCode::FAILURE
+    println!("link established");
+    if logged {
+        ExitCode::SUCCESS
+    } else {
+        ExitCode::FAILURE
+    }
 }
