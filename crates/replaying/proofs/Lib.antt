@@ -4,3 +4,4 @@ pub mod RefusalLaws
 pub mod TurnLaws
 pub mod WalkLaws
 pub mod ReadLaws
+pub mod ClaimsHold

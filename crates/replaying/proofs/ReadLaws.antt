@@ -1,7 +1,7 @@
 -- What a log that was read gives to its replay.
-use Prim.Native.Nat.{ℕ, _≤_}
-use mathlib.Core.Path.{_≡_, refl, sym, ap, ap₂, _∙_}
-use mathlib.Core.Bool.{Bool, true, _&&_}
+use Prim.Native.Nat.{ℕ}
+use mathlib.Core.Path.{_≡_, refl, sym, ap, _∙_}
+use mathlib.Core.Bool.{_&&_}
 use mathlib.Core.List.{List}
 use native.Mathlib.Omega.{arith}
 use borrow.Author.Tests.{leb-true}
@@ -47,7 +47,7 @@ module _ (s : List ℕ) where
       }
 
   -- the fields of a log are right, and it is the log in the octets
-  fields : (l m : Log) → fieldRules l ≡ yes m → (itemRules eventRules (l .events) ≡ yes tt) × (l ≡ m)
+  pub fields : (l m : Log) → fieldRules l ≡ yes m → (itemRules eventRules (l .events) ≡ yes tt) × (l ≡ m)
   unfolding fieldRules
   fields l m e =
       let one = passed (leb (l .configuration .exemption) 1) 8 _ m e in

@@ -14,7 +14,7 @@ use Rattle.ends.specs.Clock.{elapsed, tickTime}
 use Rattle.ends.specs.Constants.{retryCount, soundCount, longestGap}
 use Rattle.ends.proofs.AnswerLaws.{no-same}
 use Rattle.ends.proofs.Logic.{on-cond}
-use Rattle.ends.specs.Outcomes.{Outcome, andThen, outcomeOf}
+use Rattle.ends.specs.Outcomes.{andThen, outcomeOf}
 use Rattle.rules.specs.declared.Configuration.{Configuration}
 use Rattle.rules.specs.declared.Phase.{Phase}
 use Rattle.rules.specs.declared.Phase.the-variants.{Asked, Sounding, Reported, Awaiting, Ready, Counting, Success}

@@ -2,7 +2,7 @@
 use Prim.Native.Nat.{ℕ, _+_, _-_, _^_, _<_, _≤_}
 use mathlib.Core.Path.{_≡_, refl, sym, ap, ap₂, _∙_}
 use mathlib.Core.Bool.{Bool, _&&_}
-use mathlib.Core.List.{List, [], _∷_, _++_}
+use mathlib.Core.List.{List, _++_}
 use native.Mathlib.Omega.{arith}
 use lib.Dec.{eqb}
 use lib.ListN.{length, take, drop, length-append, length-drop}
@@ -13,7 +13,7 @@ use Rattle.messages.specs.Reading.{no, yes}
 use Rattle.ends.specs.declared.Indication.{Indication}
 use Rattle.ends.specs.declared.Indication.the-variants.{Nothing, NoLink, LinkEstablished, Found, PotentiallyFound, NotFound, KeyGiven}
 use Rattle.ends.specs.Answers.{indicationNumber}
-use Rattle.ends.specs.Outcomes.{Outcome, joined}
+use Rattle.ends.specs.Outcomes.{Outcome}
 use Rattle.script.specs.Replies.{longestReply, replyHead, callReply}
 use Rattle.log.specs.Meaning.{Item, lengthIn}
 use Rattle.log.specs.Layout.{itemOctets, numbers, numbersAt, octetsOf, headAt, behind, itemAt}

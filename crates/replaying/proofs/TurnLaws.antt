@@ -2,7 +2,7 @@
 use Prim.Native.Nat.{ℕ, zero, suc, _+_, _-_, _≤_}
 use mathlib.Core.Path.{_≡_, refl, sym, ap, ap₂, _∙_}
 use mathlib.Core.Bool.{Bool, true, false, cond, _&&_}
-use mathlib.Core.List.{List, [], _∷_, _++_}
+use mathlib.Core.List.{List}
 use mathlib.Core.Option.{Option, none, some}
 use native.Mathlib.Omega.{arith}
 use borrow.Author.Tests.{le-leb}
@@ -18,13 +18,12 @@ use Rattle.rules.specs.Rules.{step, outcome}
 use Rattle.script.specs.declared.Happened.{Happened}
 use Rattle.script.specs.Ends as ends
 use Rattle.script.specs.Ends.{carriedOutAs}
-use Rattle.script.specs.Events.{call, given, mostOctets}
+use Rattle.script.specs.Events.{call, given}
 use Rattle.script.specs.Layout.{Event, kinds}
 use Rattle.script.specs.Promises.{reply, Happens}
-use Rattle.script.specs.Replies.{longestReply, callReply}
+use Rattle.script.specs.Replies.{longestReply}
 use Rattle.log.specs.Meaning.{Item, firstIn, secondIn}
-use Rattle.log.specs.Layout.{itemOctets, numbers, octetsOf, headAt, behind, itemAt}
-use Rattle.replaying.specs.declared.Turn.{Turn}
+use Rattle.log.specs.Layout.{numbers, octetsOf, headAt, behind, itemAt}
 use Rattle.replaying.specs.Replaying.{callIn, callOf, recorded, sameOctets, after, isReply}
 use Rattle.replaying.specs.Private.{Stand, Turned}
 use Rattle.replaying.proofs.ReplyLaws.{Narrow, same-replies, item-narrow, item-octets, reply-octets, recorded-narrow}

@@ -1,8 +1,8 @@
 -- The walk over events and replies: what is left at each place is the whole.
-use Prim.Native.Nat.{ℕ, zero, suc, _+_, _-_, _^_, _<_, _≤_}
+use Prim.Native.Nat.{ℕ, suc, _+_, _-_, _<_, _≤_}
 use mathlib.Core.Path.{_≡_, refl, sym, ap, ap₂, _∙_}
 use mathlib.Core.Bool.{Bool, true, false, cond, not}
-use mathlib.Core.List.{List, [], _∷_}
+use mathlib.Core.List.{List}
 use native.Mathlib.Omega.{arith}
 use borrow.Author.Tests.{leb-true, not-true, not-false}
 use lib.Dec.{leb}
@@ -13,7 +13,7 @@ use Rattle.messages.proofs.LayoutLaws.{and-left, and-right}
 use Rattle.ends.specs.Outcomes.{andThen}
 use Rattle.rules.specs.declared.Station.{Station}
 use Rattle.rules.specs.Invariant.{Invariant}
-use Rattle.log.specs.Meaning.{Item, headOf, firstIn}
+use Rattle.log.specs.Meaning.{headOf, firstIn}
 use Rattle.log.specs.Layout.{headAt, behind, itemAt, itemsAt}
 use Rattle.log.specs.Reading.{endsAt, eventRules, itemRules}
 use Rattle.replaying.specs.declared.Turn.{Turn}

@@ -1,3 +1,4 @@
 pub mod Replaying
 pub mod Answers
 pub mod Private
+pub mod Claims

@@ -8,7 +8,7 @@ use rules::LEAST_OUTPUT;
 use rules::Station;
 use script::LONGEST_REPLY;
 ghost use mathlib.Core.Path.{_≡_};
-ghost use Prim.Native.Nat.{_<_, _≤_, _^_};
+ghost use Prim.Native.Nat.{_<_, _^_};
 ghost use lib.ListN.{length};
 ghost use Rattle.messages.specs.Reading.{yes};
 ghost use Rattle.rules.specs.Invariant.{Invariant};
@@ -24,7 +24,8 @@ ghost use Rattle.replaying.specs.Private.{Ready, Stand, Listed, Turned};
 // A scratch output that the longest reply just fits.
 type Output = [u8; LONGEST_REPLY];
 
-// What the replay of a log answers: the number of the first event whose recorded reply differs, from 1, or 0 if none does.
+// What the replay of a log answers: the cause by which the log is refused, or the number of the first event whose recorded reply
+// differs, from 1, and 0 if none does.
 pub enum Replayed {
     Refused(Cause),
     Difference(usize),
