@@ -10,7 +10,9 @@ use libc::STDOUT_FILENO;
 use log::MOST_OCTETS;
 use replaying::Replayed;
 ghost use mathlib.Core.Path.{_≡_};
+ghost use Prim.Native.Nat.{_+_};
 ghost use lib.ListN.{length};
+ghost use Rattle.log.specs.Layout.{mostOctets};
 
 // One octet more than a log may have: a longer input is refused like it.
 const INPUT_OCTETS: usize = MOST_OCTETS + 1;
@@ -20,7 +22,7 @@ type Input = [u8; INPUT_OCTETS];
 
 // Zeros for the input to be read over.
 fn input() -> Input
-    ensures { λ r. ⌜ 65537 ≡ length r ⌝ }
+    ensures { λ r. ⌜ mostOctets + 1 ≡ length r ⌝ }
 {
     [0; INPUT_OCTETS]
 }
