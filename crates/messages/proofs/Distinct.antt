@@ -5,11 +5,12 @@ use mathlib.Core.List.{List, [], _∷_}
 use native.Mathlib.Omega.{arith}
 use lib.ListN.{getD}
 use Rattle.messages.specs.Table as table
-use Rattle.messages.specs.Reading.{yes}
+use Rattle.messages.specs.Reading.{yes, Beside}
+use Rattle.messages.specs.declared.Edition.{Edition}
 use Rattle.messages.specs.Answers.{numberOf, messageOf}
 use Rattle.messages.specs.Claims.{NumbersDiffer, AnswersDiffer, WrittenDiffer}
 use Rattle.messages.specs.declared.Refusal.{Refusal}
-use Rattle.messages.specs.declared.Refusal.the-variants.{TooShort, BadHead, UnknownType, TooLong, BadAddress, BadOctet, NotForUs, WrongState, AdmissionClosed, RecordsFull, NoRecord, WrongPhase, BadSoundCount, TickGap, OutputTooShort, BadConfiguration, OnlyForCars, ReportsFull, OnlyForStations, NoSounds, EmptyRun}
+use Rattle.messages.specs.declared.Refusal.the-variants.{TooShort, BadHead, UnknownType, TooLong, BadAddress, BadOctet, NotForUs, WrongState, AdmissionClosed, RecordsFull, NoRecord, WrongPhase, BadSoundCount, TickGap, OutputTooShort, BadConfiguration, OnlyForCars, ReportsFull, OnlyForStations, NoSounds, EmptyRun, OtherTry, OtherGroupCount}
 use Rattle.messages.specs.declared.Message.{Message}
 use Rattle.messages.specs.declared.Message.the-variants.{SlacParmReq, SlacParmCnf, StartAttenCharInd, AttenCharInd, AttenCharRsp, MnbcSoundInd, ValidateReq, ValidateCnf, SlacMatchReq, SlacMatchCnf, AttenProfileInd}
 use Rattle.messages.specs.declared.ReadAnswer.the-variants as readAnswer
@@ -21,7 +22,7 @@ refusals : List Refusal
 refusals =
     TooShort ∷ BadHead ∷ UnknownType ∷ TooLong ∷ BadAddress ∷ BadOctet ∷ NotForUs ∷ WrongState ∷ AdmissionClosed ∷ RecordsFull ∷ NoRecord ∷ WrongPhase
     ∷ BadSoundCount ∷ TickGap ∷ OutputTooShort ∷ BadConfiguration ∷ OnlyForCars ∷ ReportsFull ∷ OnlyForStations
-    ∷ NoSounds ∷ EmptyRun ∷ []
+    ∷ NoSounds ∷ EmptyRun ∷ OtherTry ∷ OtherGroupCount ∷ []
 
 -- the refusal that has a number
 refusalOf : ℕ → Refusal
@@ -50,34 +51,36 @@ refusal-back ReportsFull = refl
 refusal-back OnlyForStations = refl
 refusal-back NoSounds = refl
 refusal-back EmptyRun = refl
+refusal-back OtherTry = refl
+refusal-back OtherGroupCount = refl
 
 pub numbers-differ : NumbersDiffer
 numbers-differ x y e = sym (refusal-back x) ∙ ap refusalOf e ∙ refusal-back y
 
 -- the value of the code that means a message
 abbrev valueOf : table.Message → Message
-valueOf m = messageIn (m .kind) (m .dst) (m .src) (m .values)
+valueOf m = messageIn (m .edition) (m .kind) (m .count) (m .dst) (m .src) (m .values)
 
-message-back : (m : Message) (g : List ℕ) → valueOf (messageOf m g) ≡ m
-message-back (SlacParmReq c r) g = refl
-message-back (SlacParmCnf s c r) g = refl
-message-back (StartAttenCharInd c r) g = refl
-message-back (AttenCharInd s c r n) g = refl
-message-back (AttenCharRsp c s r) g = refl
-message-back (MnbcSoundInd c n r x) g = refl
-message-back (ValidateReq c t d) g = refl
-message-back (ValidateCnf s n c x) g = refl
-message-back (SlacMatchReq c s r) g = refl
-message-back (SlacMatchCnf s c r n k) g = refl
-message-back (AttenProfileInd m s c) g = refl
+message-back : (e : Edition) (m : Message) (b : Beside) → valueOf (messageOf e m b) ≡ m
+message-back e (SlacParmReq c r) b = refl
+message-back e (SlacParmCnf s c t r) b = refl
+message-back e (StartAttenCharInd c t r) b = refl
+message-back e (AttenCharInd s c r n g) b = refl
+message-back e (AttenCharRsp c s r) b = refl
+message-back e (MnbcSoundInd c n r x) b = refl
+message-back e (ValidateReq c t d) b = refl
+message-back e (ValidateCnf s n c x) b = refl
+message-back e (SlacMatchReq c s r) b = refl
+message-back e (SlacMatchCnf s c r n k) b = refl
+message-back e (AttenProfileInd m s c g) b = refl
 
 pub answers-differ : AnswersDiffer
-answers-differ (readAnswer.Read m) (readAnswer.Read n) g e =
-    let same : messageOf m g ≡ messageOf n g = let w : yes (messageOf m g) ≡ yes (messageOf n g) = e in cc in
-    ap readAnswer.Read (sym (message-back m g) ∙ ap valueOf same ∙ message-back n g)
-answers-differ (readAnswer.Read m) (readAnswer.Refused y) g e = absurd (let z : _≡_ {A = ℕ} 0 1 = cc in omega arith)
-answers-differ (readAnswer.Refused x) (readAnswer.Read n) g e = absurd (let z : _≡_ {A = ℕ} 0 1 = cc in omega arith)
-answers-differ (readAnswer.Refused x) (readAnswer.Refused y) g e = ap readAnswer.Refused (numbers-differ x y (cc))
+answers-differ e (readAnswer.Read m) (readAnswer.Read n) b q =
+    let same : messageOf e m b ≡ messageOf e n b = let w : yes (messageOf e m b) ≡ yes (messageOf e n b) = q in cc in
+    ap readAnswer.Read (sym (message-back e m b) ∙ ap valueOf same ∙ message-back e n b)
+answers-differ e (readAnswer.Read m) (readAnswer.Refused y) b q = absurd (let z : _≡_ {A = ℕ} 0 1 = cc in omega arith)
+answers-differ e (readAnswer.Refused x) (readAnswer.Read n) b q = absurd (let z : _≡_ {A = ℕ} 0 1 = cc in omega arith)
+answers-differ e (readAnswer.Refused x) (readAnswer.Refused y) b q = ap readAnswer.Refused (numbers-differ x y (cc))
 
 pub written-differ : WrittenDiffer
 written-differ (written.Octets m) (written.Octets n) e = ap written.Octets (cc)

@@ -1,17 +1,17 @@
 -- The laws of layouts, each proved once over the layout: a law about each field, then the list of them.
 use Prim.Native.Nat.{ℕ, _+_, _^_, _<_, _≤_}
 use mathlib.Core.Path.{_≡_, refl, sym, ap, ap₂, _∙_}
-use mathlib.Core.Bool.{Bool, true, false, _&&_, false≢true}
+use mathlib.Core.Bool.{Bool, true, false, _&&_, _||_, false≢true}
 use mathlib.Core.List.{List, [], _∷_, _++_, append-assoc}
 use native.Mathlib.Omega.{arith}
 use native.Mathlib.Nat.{one-le-pow}
 use borrow.Author.Tests.{eq-eqb, eqb-true, ltb-true, lt-ltb}
 use lib.Dec.{eqb, ltb}
-use lib.ListN.{length, take, drop, length-append, length-take, length-drop}
-use lib.Seq.{take-at, drop-at}
+use lib.ListN.{length, take, drop, replicate, length-append, length-replicate}
+use lib.Seq.{take-at, length-take-le}
 use Rattle.octets.specs.Octets.{value, bytes, lowValue, lowBytes, part, Octets}
-use Rattle.messages.specs.Layout.{Field, is, number, low, octets, reserved, Values, width, size, holds, read, encode, zeroedField, zeroed, fits}
-use Rattle.octets.proofs.OctetLaws.{length-bytes, value-lt, value-bytes, bytes-value, length-low, low-lt, low-value-bytes, low-bytes-value, value-take, low-take, part-take}
+use Rattle.messages.specs.Layout.{Field, is, number, such, low, free, octets, reserved, Values, width, size, zeros, holds, read, encode, zeroedField, zeroed, fits}
+use Rattle.octets.proofs.OctetLaws.{length-bytes, value-lt, value-bytes, bytes-value, length-low, low-lt, low-value-bytes, low-bytes-value, value-here, value-part, value-zeros, part-here, length-part, zeros-behind, value-take, low-take, part-take}
 
 pub and-left : (a b : Bool) → (a && b) ≡ true → a ≡ true
 and-left true b e = refl
@@ -27,31 +27,39 @@ and-right false b e = absurd (false≢true e)
 abbrev test : Field → ℕ → List ℕ → Bool
 test (is n v) at s = eqb (value s at n) v
 test (number n) at s = true
+test (such n p) at s = p (value s at n)
 test (low n b) at s = ltb (lowValue s at n) b
-test (octets n) at s = true
+test (free n b) at s = zeros b s at n
+test (octets n z) at s = true
 test (reserved n) at s = true
 
 -- its octets, and the values of the fields behind it
 abbrev pub first : (f : Field) (fs : List Field) → Values (f ∷ fs) → List ℕ
 first (is n v) fs vs = bytes n v
 first (number n) fs vs = bytes n (vs .0)
+first (such n p) fs vs = bytes n (vs .0)
 first (low n b) fs vs = lowBytes n (vs .0)
-first (octets n) fs vs = vs .0
+first (free n b) fs vs = vs .0
+first (octets n z) fs vs = take n (vs .0)
 first (reserved n) fs vs = bytes n 0
 
 abbrev pub rest : (f : Field) (fs : List Field) → Values (f ∷ fs) → Values fs
 rest (is n v) fs vs = vs
 rest (number n) fs vs = vs .1
+rest (such n p) fs vs = vs .1
 rest (low n b) fs vs = vs .1
-rest (octets n) fs vs = vs .1
+rest (free n b) fs vs = vs .1
+rest (octets n z) fs vs = vs .1
 rest (reserved n) fs vs = vs
 
 -- its value fits it
 abbrev pub FitsField : (f : Field) (fs : List Field) → Values (f ∷ fs) → Type 0
 FitsField (is n v) fs vs = v < 256 ^ n
 FitsField (number n) fs vs = vs .0 < 256 ^ n
+FitsField (such n p) fs vs = (p (vs .0) ≡ true) × (vs .0 < 256 ^ n)
 FitsField (low n b) fs vs = (vs .0 < b) × (vs .0 < 256 ^ n)
-FitsField (octets n) fs vs = length (vs .0) ≡ n
+FitsField (free n b) fs vs = (length (vs .0) ≡ n) × (zeros b (vs .0) 0 n ≡ true)
+FitsField (octets n z) fs vs = (length (vs .0) ≡ n + z) × (value (vs .0) n z ≡ 0)
 FitsField (reserved n) fs vs = 0 < 256 ^ n
 
 -- the values of a layout fit it, as facts
@@ -59,58 +67,72 @@ abbrev pub Fits : (fs : List Field) → Values fs → Type 0
 Fits [] vs = Unit {0}
 Fits (f ∷ fs) vs = FitsField f fs vs × Fits fs (rest f fs vs)
 
--- each run of any octets has its field's length
+-- each run of any octets has its field's length, or more where the rest has no octets
 abbrev pub Full : (fs : List Field) → Values fs → Type 0
 Full [] vs = Unit {0}
 Full (is n v ∷ fs) vs = Full fs vs
 Full (number n ∷ fs) vs = Full fs (vs .1)
+Full (such n p ∷ fs) vs = Full fs (vs .1)
 Full (low n b ∷ fs) vs = Full fs (vs .1)
-Full (octets n ∷ fs) vs = (length (vs .0) ≡ n) × Full fs (vs .1)
+Full (free n b ∷ fs) vs = (length (vs .0) ≡ n) × Full fs (vs .1)
+Full (octets n z ∷ fs) vs = (n ≤ length (vs .0)) × Full fs (vs .1)
 Full (reserved n ∷ fs) vs = Full fs vs
 
 module _ (fs : List Field) where
   holds-cons : (f : Field) (at : ℕ) (s : List ℕ) → holds at (f ∷ fs) s ≡ (test f at s && holds (at + width f) fs s)
   holds-cons (is n v) at s = refl
   holds-cons (number n) at s = refl
+  holds-cons (such n p) at s = refl
   holds-cons (low n b) at s = refl
-  holds-cons (octets n) at s = refl
+  holds-cons (free n b) at s = refl
+  holds-cons (octets n z) at s = refl
   holds-cons (reserved n) at s = refl
 
   pub encode-cons : (f : Field) (vs : Values (f ∷ fs)) → encode (f ∷ fs) vs ≡ first f fs vs ++ encode fs (rest f fs vs)
   encode-cons (is n v) vs = refl
   encode-cons (number n) vs = refl
+  encode-cons (such n p) vs = refl
   encode-cons (low n b) vs = refl
-  encode-cons (octets n) vs = refl
+  encode-cons (free n b) vs = refl
+  encode-cons (octets n z) vs = refl
   encode-cons (reserved n) vs = refl
 
   rest-read : (f : Field) (at : ℕ) (s : List ℕ) → rest f fs (read at (f ∷ fs) s) ≡ read (at + width f) fs s
   rest-read (is n v) at s = refl
   rest-read (number n) at s = refl
+  rest-read (such n p) at s = refl
   rest-read (low n b) at s = refl
-  rest-read (octets n) at s = refl
+  rest-read (free n b) at s = refl
+  rest-read (octets n z) at s = refl
   rest-read (reserved n) at s = refl
 
   -- a value that fits has its field's length
   fits-full : (f : Field) (vs : Values (f ∷ fs)) → FitsField f fs vs → Full fs (rest f fs vs) → Full (f ∷ fs) vs
   fits-full (is n v) vs h u = u
   fits-full (number n) vs h u = u
+  fits-full (such n p) vs h u = u
   fits-full (low n b) vs h u = u
-  fits-full (octets n) vs h u = (h, u)
+  fits-full (free n b) vs h u = (h .0, u)
+  fits-full (octets n z) vs h u = (omega (arith, h .0), u)
   fits-full (reserved n) vs h u = u
 
   pub full-cons : (f : Field) (vs : Values (f ∷ fs)) → Full (f ∷ fs) vs → (length (first f fs vs) ≡ width f) × Full fs (rest f fs vs)
   full-cons (is n v) vs h = (length-bytes n v, h)
   full-cons (number n) vs h = (length-bytes n (vs .0), h)
+  full-cons (such n p) vs h = (length-bytes n (vs .0), h)
   full-cons (low n b) vs h = (length-low n (vs .0), h)
-  full-cons (octets n) vs h = h
+  full-cons (free n b) vs h = h
+  full-cons (octets n z) vs h = (length-take-le n (vs .0) (h .0), h .1)
   full-cons (reserved n) vs h = (length-bytes n 0, h)
 
   -- the octets that were written pass the test, wherever they stand
   test-first : (f : Field) (vs : Values (f ∷ fs)) (pre behind : List ℕ) → FitsField f fs vs → test f (length pre) (pre ++ (first f fs vs ++ behind)) ≡ true
   test-first (is n v) vs pre behind h = eq-eqb _ v (value-bytes n v pre behind h)
   test-first (number n) vs pre behind h = refl
+  test-first (such n p) vs pre behind h = ap p (value-bytes n (vs .0) pre behind (h .1)) ∙ h .0
   test-first (low n b) vs pre behind h = rw (low-value-bytes n (vs .0) pre behind (h .1)) (lt-ltb (vs .0) b (h .0))
-  test-first (octets n) vs pre behind h = refl
+  test-first (free n b) vs pre behind h = ap (λ (x : ℕ). b || eqb x 0) (value-here (vs .0) pre behind n (h .0)) ∙ h .1
+  test-first (octets n z) vs pre behind h = refl
   test-first (reserved n) vs pre behind h = refl
 
   -- and reading them gives the field's value
@@ -119,9 +141,13 @@ module _ (fs : List Field) where
       → read (length pre) (f ∷ fs) (pre ++ (first f fs vs ++ behind)) ≡ vs
   read-first (is n v) vs pre behind h e = e
   read-first (number n) vs pre behind h e = ap₂ (λ (a : ℕ) (b : Values fs). (a, b)) (value-bytes n (vs .0) pre behind h) e
+  read-first (such n p) vs pre behind h e = ap₂ (λ (a : ℕ) (b : Values fs). (a, b)) (value-bytes n (vs .0) pre behind (h .1)) e
   read-first (low n b) vs pre behind h e = ap₂ (λ (a : ℕ) (c : Values fs). (a, c)) (low-value-bytes n (vs .0) pre behind (h .1)) e
-  read-first (octets n) vs pre behind h e =
-      ap₂ (λ (a : List ℕ) (b : Values fs). (a, b)) (ap (take n) (drop-at pre (vs .0 ++ behind) (length pre) refl) ∙ take-at (vs .0) behind n h) e
+  read-first (free n b) vs pre behind h e = ap₂ (λ (a : List ℕ) (c : Values fs). (a, c)) (part-here (vs .0) pre behind n (h .0)) e
+  read-first (octets n z) vs pre behind h e =
+      ap₂ (λ (a : List ℕ) (b : Values fs). (a, b))
+      (ap (λ (l : List ℕ). l ++ replicate z 0) (part-here (take n (vs .0)) pre behind n (length-take-le n (vs .0) (omega (arith, h .0)))) ∙ zeros-behind (vs .0) n z (h .0) (h .1))
+      e
   read-first (reserved n) vs pre behind h e = e
 
   -- the octets that are written of what was read are those that stand there, zeroed where they are reserved
@@ -129,32 +155,49 @@ module _ (fs : List Field) where
       → first f fs (read at (f ∷ fs) s) ≡ zeroedField f at s
   first-read (is n v) at s o h t = ap (bytes n) (sym (eqb-true (value s at n) v t)) ∙ bytes-value n at s o h
   first-read (number n) at s o h t = bytes-value n at s o h
+  first-read (such n p) at s o h t = bytes-value n at s o h
   first-read (low n b) at s o h t = low-bytes-value n at s o h
-  first-read (octets n) at s o h t = refl
+  first-read (free n b) at s o h t = refl
+  first-read (octets n z) at s o h t = take-at (part s at n) (replicate z 0) n (length-part s at n h)
   first-read (reserved n) at s o h t = refl
 
   -- and fit the field
   fits-read : (f : Field) (at : ℕ) (s : List ℕ) → Octets s → at + width f ≤ length s → test f at s ≡ true → FitsField f fs (read at (f ∷ fs) s)
   fits-read (is n v) at s o h t = rw (eqb-true (value s at n) v t) at (value-lt s at n o)
   fits-read (number n) at s o h t = value-lt s at n o
+  fits-read (such n p) at s o h t = (t, value-lt s at n o)
   fits-read (low n b) at s o h t = (ltb-true (lowValue s at n) b t, low-lt s at n o)
-  fits-read (octets n) at s o h t = rw (length-take, length-drop) (omega arith)
+  fits-read (free n b) at s o h t = (length-part s at n h, ap (λ (x : ℕ). b || eqb x 0) (value-part s at n) ∙ t)
+  fits-read (octets n z) at s o h t = (
+    length-append (part s at n) (replicate z 0) ∙ ap₂ _+_ (length-part s at n h) (length-replicate z 0),
+    ap (λ (k : ℕ). value (part s at n ++ replicate z 0) k z) (sym (length-part s at n h)) ∙ value-zeros (part s at n) z,
+  )
   fits-read (reserved n) at s o h t = one-le-pow n 256 (omega arith)
 
   fits-fits : (f : Field) (vs : Values (f ∷ fs)) → fits (f ∷ fs) vs ≡ true → FitsField f fs vs × (fits fs (rest f fs vs) ≡ true)
   fits-fits (is n v) vs e = (ltb-true v (256 ^ n) (and-left (ltb v (256 ^ n)) (fits fs vs) e), and-right (ltb v (256 ^ n)) (fits fs vs) e)
   fits-fits (number n) vs e = (ltb-true (vs .0) (256 ^ n) (and-left (ltb (vs .0) (256 ^ n)) (fits fs (vs .1)) e), and-right (ltb (vs .0) (256 ^ n)) (fits fs (vs .1)) e)
+  fits-fits (such n p) vs e =
+      let r = and-right (p (vs .0)) (ltb (vs .0) (256 ^ n) && fits fs (vs .1)) e in
+      ((and-left (p (vs .0)) (ltb (vs .0) (256 ^ n) && fits fs (vs .1)) e, ltb-true (vs .0) (256 ^ n) (and-left (ltb (vs .0) (256 ^ n)) (fits fs (vs .1)) r)), and-right (ltb (vs .0) (256 ^ n)) (fits fs (vs .1)) r)
   fits-fits (low n b) vs e =
       let r = and-right (ltb (vs .0) b) (ltb (vs .0) (256 ^ n) && fits fs (vs .1)) e in
       ((ltb-true (vs .0) b (and-left (ltb (vs .0) b) (ltb (vs .0) (256 ^ n) && fits fs (vs .1)) e), ltb-true (vs .0) (256 ^ n) (and-left (ltb (vs .0) (256 ^ n)) (fits fs (vs .1)) r)), and-right (ltb (vs .0) (256 ^ n)) (fits fs (vs .1)) r)
-  fits-fits (octets n) vs e = (eqb-true (length (vs .0)) n (and-left (eqb (length (vs .0)) n) (fits fs (vs .1)) e), and-right (eqb (length (vs .0)) n) (fits fs (vs .1)) e)
+  fits-fits (free n b) vs e =
+      let r = and-right (eqb (length (vs .0)) n) (zeros b (vs .0) 0 n && fits fs (vs .1)) e in
+      ((eqb-true (length (vs .0)) n (and-left (eqb (length (vs .0)) n) (zeros b (vs .0) 0 n && fits fs (vs .1)) e), and-left (zeros b (vs .0) 0 n) (fits fs (vs .1)) r), and-right (zeros b (vs .0) 0 n) (fits fs (vs .1)) r)
+  fits-fits (octets n z) vs e =
+      let r = and-right (eqb (length (vs .0)) (n + z)) (eqb (value (vs .0) n z) 0 && fits fs (vs .1)) e in
+      ((eqb-true (length (vs .0)) (n + z) (and-left (eqb (length (vs .0)) (n + z)) (eqb (value (vs .0) n z) 0 && fits fs (vs .1)) e), eqb-true (value (vs .0) n z) 0 (and-left (eqb (value (vs .0) n z) 0) (fits fs (vs .1)) r)), and-right (eqb (value (vs .0) n z) 0) (fits fs (vs .1)) r)
   fits-fits (reserved n) vs e = (one-le-pow n 256 (omega arith), e)
 
   fits-cons : (f : Field) (vs : Values (f ∷ fs)) → FitsField f fs vs → fits fs (rest f fs vs) ≡ true → fits (f ∷ fs) vs ≡ true
   fits-cons (is n v) vs h e = ap₂ _&&_ (lt-ltb v (256 ^ n) h) e
   fits-cons (number n) vs h e = ap₂ _&&_ (lt-ltb (vs .0) (256 ^ n) h) e
+  fits-cons (such n p) vs h e = ap₂ _&&_ (h .0) (ap₂ _&&_ (lt-ltb (vs .0) (256 ^ n) (h .1)) e)
   fits-cons (low n b) vs h e = ap₂ _&&_ (lt-ltb (vs .0) b (h .0)) (ap₂ _&&_ (lt-ltb (vs .0) (256 ^ n) (h .1)) e)
-  fits-cons (octets n) vs h e = ap₂ _&&_ (eq-eqb (length (vs .0)) n h) e
+  fits-cons (free n b) vs h e = ap₂ _&&_ (eq-eqb (length (vs .0)) n (h .0)) (ap₂ _&&_ (h .1) e)
+  fits-cons (octets n z) vs h e = ap₂ _&&_ (eq-eqb (length (vs .0)) (n + z) (h .0)) (ap₂ _&&_ (eq-eqb (value (vs .0) n z) 0 (h .1)) e)
   fits-cons (reserved n) vs h e = e
 
 -- ---- a layout
@@ -238,14 +281,18 @@ module _ (k : ℕ) (s : List ℕ) where
   holds-take [] at h = refl
   holds-take (is n v ∷ fs) at h = ap₂ (λ (a : ℕ) (b : Bool). eqb a v && b) (value-take k s at n (omega arith)) (holds-take fs (at + n) (omega arith))
   holds-take (number n ∷ fs) at h = holds-take fs (at + n) (omega arith)
+  holds-take (such n p ∷ fs) at h = ap₂ (λ (a : ℕ) (b : Bool). p a && b) (value-take k s at n (omega arith)) (holds-take fs (at + n) (omega arith))
   holds-take (low n b ∷ fs) at h = ap₂ (λ (a : ℕ) (t : Bool). ltb a b && t) (low-take k s at n (omega arith)) (holds-take fs (at + n) (omega arith))
-  holds-take (octets n ∷ fs) at h = holds-take fs (at + n) (omega arith)
+  holds-take (free n b ∷ fs) at h = ap₂ (λ (a : ℕ) (t : Bool). (b || eqb a 0) && t) (value-take k s at n (omega arith)) (holds-take fs (at + n) (omega arith))
+  holds-take (octets n z ∷ fs) at h = holds-take fs (at + n) (omega arith)
   holds-take (reserved n ∷ fs) at h = holds-take fs (at + n) (omega arith)
 
   pub read-take : (fs : List Field) (at : ℕ) → at + size fs ≤ k → read at fs (take k s) ≡ read at fs s
   read-take [] at h = refl
   read-take (is n v ∷ fs) at h = read-take fs (at + n) (omega arith)
   read-take (number n ∷ fs) at h = ap₂ (λ (a : ℕ) (b : Values fs). (a, b)) (value-take k s at n (omega arith)) (read-take fs (at + n) (omega arith))
+  read-take (such n p ∷ fs) at h = ap₂ (λ (a : ℕ) (b : Values fs). (a, b)) (value-take k s at n (omega arith)) (read-take fs (at + n) (omega arith))
   read-take (low n b ∷ fs) at h = ap₂ (λ (a : ℕ) (c : Values fs). (a, c)) (low-take k s at n (omega arith)) (read-take fs (at + n) (omega arith))
-  read-take (octets n ∷ fs) at h = ap₂ (λ (a : List ℕ) (b : Values fs). (a, b)) (part-take k s at n (omega arith)) (read-take fs (at + n) (omega arith))
+  read-take (free n b ∷ fs) at h = ap₂ (λ (a : List ℕ) (c : Values fs). (a, c)) (part-take k s at n (omega arith)) (read-take fs (at + n) (omega arith))
+  read-take (octets n z ∷ fs) at h = ap₂ (λ (a : List ℕ) (b : Values fs). (a ++ replicate z 0, b)) (part-take k s at n (omega arith)) (read-take fs (at + n) (omega arith))
   read-take (reserved n ∷ fs) at h = read-take fs (at + n) (omega arith)

@@ -1,6 +1,6 @@
 pub mod LayoutLaws
-pub mod TableLaws
 pub mod CheckLaws
+pub mod TableLaws
 pub mod ReadLaws
 pub mod FrameLaws
 pub mod WriteLaws

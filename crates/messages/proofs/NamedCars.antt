@@ -10,6 +10,7 @@ use Rattle.messages.specs.Table.{Kind, slacParmReq, slacParmCnf, startAt
 use Rattle.messages.specs.Reading.{Checked, no, yes, readRules, carIn, carOf}
 use Rattle.messages.specs.Writing.{isAddressed}
 use Rattle.messages.specs.Claims.{CarsUnicast}
+use Rattle.messages.specs.declared.Edition.{Edition}
 use Rattle.messages.specs.declared.CarAddress.{CarAddress}
 use Rattle.messages.proofs.LayoutLaws.{and-left, and-right}
 use Rattle.messages.proofs.FrameLaws.{accepted}
@@ -21,24 +22,24 @@ module _ (c : CarAddress) where
   none-named : _≡_ {A = Option CarAddress} none (some c) → isUnicast (c .0) ≡ true
   none-named e = absurd (let z : _≡_ {A = ℕ} 0 1 = cc in omega arith)
 
-  named-in : (k : Kind) (d f : ℕ) (vs : Values (payload k d f)) → addressed k d f vs ≡ true → carIn k d f vs ≡ some c → isUnicast (c .0) ≡ true
-  named-in slacParmReq d f vs a e = this f (and-left (isUnicast f) _ a) e
-  named-in slacParmCnf d f vs a e = none-named e
-  named-in startAttenCharInd d f vs a e = this f (and-left (isUnicast f) _ a) e
-  named-in attenCharInd d f vs a e = none-named e
-  named-in attenCharRsp d f vs a e = this f (and-left (isUnicast f) _ a) e
-  named-in mnbcSoundInd d f vs a e = this f (and-left (isUnicast f) _ a) e
-  named-in validateReq d f vs a e = this f (and-left (isUnicast f) _ a) e
-  named-in validateCnf d f vs a e = none-named e
-  named-in slacMatchReq d f vs a e = this f (and-left (isUnicast f) _ a) e
-  named-in slacMatchCnf d f vs a e = none-named e
-  named-in attenProfileInd d f vs a e = this (vs .0) (and-right (isUnicast f && isUnicast d) _ a) e
+  named-in : (e : Edition) (k : Kind) (g d f : ℕ) (vs : Values (payload e k g d f)) → addressed e k g d f vs ≡ true → carIn e k g d f vs ≡ some c → isUnicast (c .0) ≡ true
+  named-in e slacParmReq g d f vs a q = this f (and-left (isUnicast f) _ a) q
+  named-in e slacParmCnf g d f vs a q = none-named q
+  named-in e startAttenCharInd g d f vs a q = this f (and-left (isUnicast f) _ a) q
+  named-in e attenCharInd g d f vs a q = none-named q
+  named-in e attenCharRsp g d f vs a q = this f (and-left (isUnicast f) _ a) q
+  named-in e mnbcSoundInd g d f vs a q = this f (and-left (isUnicast f) _ a) q
+  named-in e validateReq g d f vs a q = this f (and-left (isUnicast f) _ a) q
+  named-in e validateCnf g d f vs a q = none-named q
+  named-in e slacMatchReq g d f vs a q = this f (and-left (isUnicast f) _ a) q
+  named-in e slacMatchCnf g d f vs a q = none-named q
+  named-in e attenProfileInd g d f vs a q = this (vs .0) (and-right (isUnicast f && isUnicast d) _ a) q
 
-  named : (s : List ℕ) (x : Checked Message) → readRules s ≡ x → carOf x ≡ some c → isUnicast (c .0) ≡ true
-  named s (no n) q e = none-named e
-  named s (yes m) q e =
-      let x = accepted s m q in
-      named-in (m .kind) (m .dst) (m .src) (m .values) (subst (λ (t : Message). isAddressed t ≡ true) (x .same) (x .right)) e
+  named : (e : Edition) (s : List ℕ) (x : Checked Message) → readRules e s ≡ x → carOf x ≡ some c → isUnicast (c .0) ≡ true
+  named e s (no n) q r = none-named r
+  named e s (yes m) q r =
+      let x = accepted e s m q in
+      named-in (m .edition) (m .kind) (m .count) (m .dst) (m .src) (m .values) (subst (λ (t : Message). isAddressed t ≡ true) (x .same) (x .right)) r
 
 pub cars-unicast : CarsUnicast
-cars-unicast s c e = named c s (readRules s) refl e
+cars-unicast e s c q = named c e s (readRules e s) refl q

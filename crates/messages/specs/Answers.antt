@@ -3,9 +3,11 @@ use Prim.Native.Nat.{ℕ}
 use mathlib.Core.List.{List}
 use Rattle.messages.specs.Table as table
 use Rattle.messages.specs.Table.{broadcast}
-use Rattle.messages.specs.Reading.{Checked, no, yes}
+use Rattle.messages.specs.Reading.{Checked, no, yes, Beside}
+use Rattle.messages.specs.declared.Edition.{Edition}
+use Rattle.messages.specs.declared.Ids.{Ids}
 use Rattle.messages.specs.declared.Refusal.{Refusal}
-use Rattle.messages.specs.declared.Refusal.the-variants.{TooShort, BadHead, UnknownType, TooLong, BadAddress, BadOctet, NotForUs, WrongState, AdmissionClosed, RecordsFull, NoRecord, WrongPhase, BadSoundCount, TickGap, OutputTooShort, BadConfiguration, OnlyForCars, ReportsFull, OnlyForStations, NoSounds, EmptyRun}
+use Rattle.messages.specs.declared.Refusal.the-variants.{TooShort, BadHead, UnknownType, TooLong, BadAddress, BadOctet, NotForUs, WrongState, AdmissionClosed, RecordsFull, NoRecord, WrongPhase, BadSoundCount, TickGap, OutputTooShort, BadConfiguration, OnlyForCars, ReportsFull, OnlyForStations, NoSounds, EmptyRun, OtherTry, OtherGroupCount}
 use Rattle.messages.specs.declared.Message.{Message}
 use Rattle.messages.specs.declared.Message.the-variants.{SlacParmReq, SlacParmCnf, StartAttenCharInd, AttenCharInd, AttenCharRsp, MnbcSoundInd, ValidateReq, ValidateCnf, SlacMatchReq, SlacMatchCnf, AttenProfileInd}
 use Rattle.messages.specs.declared.ReadAnswer.{ReadAnswer}
@@ -36,25 +38,31 @@ numberOf ReportsFull = 18
 numberOf OnlyForStations = 19
 numberOf NoSounds = 20
 numberOf EmptyRun = 21
+numberOf OtherTry = 22
+numberOf OtherGroupCount = 23
 
--- the message that a value of the code means, with the group values g beside it
-abbrev pub messageOf : Message → List ℕ → table.Message
-messageOf (SlacParmReq car run) g = record { kind = table.slacParmReq; dst = broadcast; src = car .0; values = (run .0, tt) }
-messageOf (SlacParmCnf station car run) g = record { kind = table.slacParmCnf; dst = car .0; src = station .0; values = (run .0, tt) }
-messageOf (StartAttenCharInd car run) g = record { kind = table.startAttenCharInd; dst = broadcast; src = car .0; values = (run .0, tt) }
-messageOf (AttenCharInd station car run sounds) g = record { kind = table.attenCharInd; dst = car .0; src = station .0; values = (run .0, (sounds, (g, tt))) }
-messageOf (AttenCharRsp car station run) g = record { kind = table.attenCharRsp; dst = station .0; src = car .0; values = (run .0, tt) }
-messageOf (MnbcSoundInd car count run random) g = record { kind = table.mnbcSoundInd; dst = broadcast; src = car .0; values = (count, (run .0, (random .0, (random .1, tt)))) }
-messageOf (ValidateReq car timer receiver) g = record { kind = table.validateReq; dst = receiver .0; src = car .0; values = (timer, tt) }
-messageOf (ValidateCnf station toggles car result) g = record { kind = table.validateCnf; dst = car .0; src = station .0; values = (toggles, (result, tt)) }
-messageOf (SlacMatchReq car station run) g = record { kind = table.slacMatchReq; dst = station .0; src = car .0; values = (run .0, tt) }
-messageOf (SlacMatchCnf station car run nid nmk) g = record { kind = table.slacMatchCnf; dst = car .0; src = station .0; values = (run .0, (nid .0, (nmk .0, (nmk .1, tt)))) }
-messageOf (AttenProfileInd modem station car) g = record { kind = table.attenProfileInd; dst = station .0; src = modem .0; values = (car .0, (g, tt)) }
+-- the message that a value of the code means in an edition, with what stands beside its numbers
+abbrev pub messageOf : Edition → Message → Beside → table.Message
+messageOf e (SlacParmReq car run) b = record { edition = e; kind = table.slacParmReq; count = 0; dst = broadcast; src = car .0; values = (run .0, tt) }
+messageOf e (SlacParmCnf station car attempt run) b = record { edition = e; kind = table.slacParmCnf; count = 0; dst = car .0; src = station .0; values = (attempt .0, (run .0, tt)) }
+messageOf e (StartAttenCharInd car attempt run) b = record { edition = e; kind = table.startAttenCharInd; count = 0; dst = broadcast; src = car .0; values = (attempt .0, (run .0, tt)) }
+messageOf e (AttenCharInd station car run sounds count) b = record { edition = e; kind = table.attenCharInd; count = count; dst = car .0; src = station .0; values = (run .0, (b .first, (b .second, (sounds, (b .groups, tt))))) }
+messageOf e (AttenCharRsp car station run) b = record { edition = e; kind = table.attenCharRsp; count = 0; dst = station .0; src = car .0; values = (run .0, (b .first, (b .second, tt))) }
+messageOf e (MnbcSoundInd car count run random) b = record { edition = e; kind = table.mnbcSoundInd; count = 0; dst = broadcast; src = car .0; values = (b .first, (count, (run .0, (random .0, (random .1, tt))))) }
+messageOf e (ValidateReq car timer receiver) b = record { edition = e; kind = table.validateReq; count = 0; dst = receiver .0; src = car .0; values = (timer, tt) }
+messageOf e (ValidateCnf station toggles car result) b = record { edition = e; kind = table.validateCnf; count = 0; dst = car .0; src = station .0; values = (toggles, (result, tt)) }
+messageOf e (SlacMatchReq car station run) b = record { edition = e; kind = table.slacMatchReq; count = 0; dst = station .0; src = car .0; values = (b .first, (b .second, (run .0, tt))) }
+messageOf e (SlacMatchCnf station car run nid nmk) b = record { edition = e; kind = table.slacMatchCnf; count = 0; dst = car .0; src = station .0; values = (b .first, (b .second, (run .0, (nid .0, (nmk .0, (nmk .1, tt)))))) }
+messageOf e (AttenProfileInd modem station car count) b = record { edition = e; kind = table.attenProfileInd; count = count; dst = station .0; src = modem .0; values = (car .0, (b .groups, tt)) }
 
--- what reading answered, with the group values g beside it
-abbrev pub answerOf : ReadAnswer → List ℕ → Checked table.Message
-answerOf (readAnswer.Refused x) g = no (numberOf x)
-answerOf (readAnswer.Read m) g = yes (messageOf m g)
+-- what stands beside a value of the code
+abbrev pub besides : List ℕ → Ids → Beside
+besides groups ids = record { groups = groups; first = ids .first; second = ids .second }
+
+-- what reading answered, with what stands beside
+abbrev pub answerOf : Edition → ReadAnswer → Beside → Checked table.Message
+answerOf e (readAnswer.Refused x) b = no (numberOf x)
+answerOf e (readAnswer.Read m) b = yes (messageOf e m b)
 
 -- what writing answered: how many octets the frame takes
 abbrev pub writtenOf : Written → Checked ℕ

@@ -1,12 +1,17 @@
 // The kinds of message, by their types and sizes.
+use crate::Edition;
 use crate::GROUPS;
 use crate::Refusal;
+use crate::editions::is_count;
+use crate::group_values::count_at;
 use octets::low_number_at;
 use octets::number_at;
 ghost use mathlib.Core.Path.{_≡_};
+ghost use Prim.Native.Nat.{_≤_};
 ghost use mathlib.Core.Option.{some};
-ghost use Rattle.messages.specs.Table.{typeOf, payloadSize, filledSize, writtenSize};
-ghost use Rattle.messages.specs.Reading.{kinds, ofType, sized, kindRules};
+ghost use lib.ListN.{length};
+ghost use Rattle.messages.specs.Table.{groupCount, typeOf, payloadSize, filledSize, writtenSize};
+ghost use Rattle.messages.specs.Reading.{yes, kinds, ofType, countRules, sized, typed, kindRules};
 ghost use Rattle.messages.specs.Private.{kindOf, kindAnswerOf};
 
 pub(crate) enum Kind {
@@ -23,9 +28,9 @@ pub(crate) enum Kind {
     AttenProfileInd,
 }
 
-// The kind of a frame, or a refusal.
+// The kind of a frame with its group count, or a refusal.
 pub(crate) enum KindAnswer {
-    Found(Kind),
+    Found(Kind, usize),
     Refused(Refusal),
 }
 
@@ -35,22 +40,23 @@ pub(crate) const HEAD: usize = 19;
 // The least length of a written frame.
 const LEAST: usize = 60;
 
-// The column Payload.
-pub(crate) fn payload_size(kind: Kind) -> usize
-    ensures { λ r. ⌜ r ≡ payloadSize (kindOf kind) ⌝ }
+// The column Payload, for a group count.
+pub(crate) fn payload_size(kind: Kind, count: usize) -> usize
+    requires { ⌜ count ≤ groupCount ⌝ }
+    ensures { λ r. ⌜ r ≡ payloadSize (kindOf kind) count ⌝ }
 {
     match kind {
         Kind::SlacParmReq => 10,
         Kind::SlacParmCnf => 25,
         Kind::StartAttenCharInd => 19,
-        Kind::AttenCharInd => 52 + GROUPS,
+        Kind::AttenCharInd => 52 + count,
         Kind::AttenCharRsp => 51,
         Kind::MnbcSoundInd => 52,
         Kind::ValidateReq => 3,
         Kind::ValidateCnf => 3,
         Kind::SlacMatchReq => 66,
         Kind::SlacMatchCnf => 90,
-        Kind::AttenProfileInd => 8 + GROUPS,
+        Kind::AttenProfileInd => 8 + count,
     }
 }
 
@@ -74,27 +80,30 @@ pub(crate) fn type_number(kind: Kind) -> u64
 }
 
 // The octets of head and payload.
-pub(crate) fn filled_size(kind: Kind) -> usize
-    ensures { λ r. ⌜ r ≡ filledSize (kindOf kind) ⌝ }
+pub(crate) fn filled_size(kind: Kind, count: usize) -> usize
+    requires { ⌜ count ≤ groupCount ⌝ }
+    ensures { λ r. ⌜ r ≡ filledSize (kindOf kind) count ⌝ }
 {
-    HEAD + payload_size(kind)
+    HEAD + payload_size(kind, count)
 }
 
 // The length of a written frame.
-pub(crate) fn written_size(kind: Kind) -> usize
-    ensures { λ r. ⌜ r ≡ writtenSize (kindOf kind) ⌝ }
+pub(crate) fn written_size(kind: Kind, count: usize) -> usize
+    requires { ⌜ count ≤ groupCount ⌝ }
+    ensures { λ r. ⌜ r ≡ writtenSize (kindOf kind) count ⌝ }
 {
-    let filled = filled_size(kind);
+    let filled = filled_size(kind, count);
     if filled <= LEAST { LEAST } else { filled }
 }
 
-// The kind, unless a frame of n octets is too short or too long for it.
-fn of_size(kind: Kind, n: usize) -> KindAnswer
-    ensures { λ r. ⌜ kindAnswerOf r ≡ sized (some (kindOf kind)) n ⌝ }
+// The kind and its group count, unless a frame of n octets is too short or too long for them.
+fn of_size(kind: Kind, count: usize, n: usize) -> KindAnswer
+    requires { ⌜ count ≤ groupCount ⌝ }
+    ensures { λ r. ⌜ kindAnswerOf r ≡ sized (kindOf kind) n (yes count) ⌝ }
 {
-    if filled_size(kind) <= n {
-        if n <= written_size(kind) {
-            KindAnswer::Found(kind)
+    if filled_size(kind, count) <= n {
+        if n <= written_size(kind, count) {
+            KindAnswer::Found(kind, count)
         } else {
             KindAnswer::Refused(Refusal::TooLong)
         }
@@ -103,35 +112,60 @@ fn of_size(kind: Kind, n: usize) -> KindAnswer
     }
 }
 
-// The kind that has the type, unless a frame of n octets is too short or too long for it.
-fn of_type(number: u64, n: usize) -> KindAnswer
-    ensures { λ r. ⌜ kindAnswerOf r ≡ sized (ofType number kinds) n ⌝ }
+// A kind with group values, whose count stands in the payload's octet `at`.
+fn of_count(edition: Edition, kind: Kind, at: usize, frame: &[u8]) -> KindAnswer
+    requires { ⌜ at ≤ 4096 ⌝ }
+    ensures { λ r. ⌜ kindAnswerOf r ≡ sized (kindOf kind) (length (now (frame .entry))) (countRules edition (some at) (now (frame .entry))) ⌝ }
 {
+    let n = frame.len();
+    match edition {
+        Edition::Iso => of_size(kind, GROUPS, n),
+        Edition::Sae => {
+            let place = HEAD + at;
+            if place < n {
+                let count = count_at(frame, place);
+                if is_count(Edition::Sae, count) {
+                    of_size(kind, count, n)
+                } else {
+                    KindAnswer::Refused(Refusal::BadOctet)
+                }
+            } else {
+                KindAnswer::Refused(Refusal::TooShort)
+            }
+        }
+    }
+}
+
+// The kind that has the type, with its group count, unless a frame is too short or too long for them.
+fn of_type(edition: Edition, number: u64, frame: &[u8]) -> KindAnswer
+    ensures { λ r. ⌜ kindAnswerOf r ≡ typed edition (ofType number kinds) (now (frame .entry)) ⌝ }
+{
+    let n = frame.len();
     match number {
-        0x6064 => of_size(Kind::SlacParmReq, n),
-        0x6065 => of_size(Kind::SlacParmCnf, n),
-        0x606A => of_size(Kind::StartAttenCharInd, n),
-        0x606E => of_size(Kind::AttenCharInd, n),
-        0x606F => of_size(Kind::AttenCharRsp, n),
-        0x6076 => of_size(Kind::MnbcSoundInd, n),
-        0x6078 => of_size(Kind::ValidateReq, n),
-        0x6079 => of_size(Kind::ValidateCnf, n),
-        0x607C => of_size(Kind::SlacMatchReq, n),
-        0x607D => of_size(Kind::SlacMatchCnf, n),
-        0x6086 => of_size(Kind::AttenProfileInd, n),
+        0x6064 => of_size(Kind::SlacParmReq, 0, n),
+        0x6065 => of_size(Kind::SlacParmCnf, 0, n),
+        0x606A => of_size(Kind::StartAttenCharInd, 0, n),
+        0x606E => of_count(edition, Kind::AttenCharInd, 51, frame),
+        0x606F => of_size(Kind::AttenCharRsp, 0, n),
+        0x6076 => of_size(Kind::MnbcSoundInd, 0, n),
+        0x6078 => of_size(Kind::ValidateReq, 0, n),
+        0x6079 => of_size(Kind::ValidateCnf, 0, n),
+        0x607C => of_size(Kind::SlacMatchReq, 0, n),
+        0x607D => of_size(Kind::SlacMatchCnf, 0, n),
+        0x6086 => of_count(edition, Kind::AttenProfileInd, 6, frame),
         _ => KindAnswer::Refused(Refusal::UnknownType),
     }
 }
 
-// The kind of a frame, by its head and its length.
-pub(crate) fn kind_in(frame: &[u8]) -> KindAnswer
-    ensures { λ r. ⌜ kindAnswerOf r ≡ kindRules (now (frame .entry)) ⌝ }
+// The kind of a frame, by its head, its group count and its length.
+pub(crate) fn kind_in(edition: Edition, frame: &[u8]) -> KindAnswer
+    ensures { λ r. ⌜ kindAnswerOf r ≡ kindRules edition (now (frame .entry)) ⌝ }
 {
     let n = frame.len();
     if HEAD <= n {
         let fixed = (number_at(frame, 12, 3) == 0x88E101) & (number_at(frame, 17, 2) == 0);
         if fixed {
-            of_type(low_number_at(frame, 15, 2), n)
+            of_type(edition, low_number_at(frame, 15, 2), frame)
         } else {
             KindAnswer::Refused(Refusal::BadHead)
         }

@@ -3,9 +3,9 @@ use Prim.Native.Nat.{ℕ, zero, suc, _+_, _-_, _*_, _^_, _/_, _%_, _<_, _≤_}
 use mathlib.Core.Path.{_≡_, refl, sym, ap, ap₂, _∙_, subst}
 use mathlib.Core.List.{List, [], _∷_, _++_, append-assoc, append-nil}
 use native.Mathlib.Omega.{arith}
-use native.Mathlib.Nat.{add-zero, pow-suc, pow-zero, div-lt-iff-lt-mul, div-add-mod'}
-use lib.ListN.{length, getD, take, drop, replicate, set, length-append, length-drop, take-append-drop, drop-of-length-le, replicate-append-replicate}
-use lib.Seq.{drop-cons, getD-append-seam, getD-append-add, sets, sets-eq, take-suc, take-all, take-take, length-take-le, drop-append-le, getD-drop, getD-take}
+use native.Mathlib.Nat.{add-zero, pow-suc, pow-zero, one-le-pow, div-lt-iff-lt-mul, div-add-mod'}
+use lib.ListN.{length, getD, take, drop, replicate, set, length-append, length-take, length-drop, take-append-drop, drop-of-length-le, length-replicate, replicate-append-replicate, List·getD-append}
+use lib.Seq.{drop-cons, getD-append-seam, getD-append-add, sets, sets-eq, take-suc, take-all, take-at, drop-at, take-take, length-take-le, drop-append-le, getD-drop, getD-take}
 use borrow.Rule.Slice.PartMut.{putMid}
 use Rattle.octets.specs.Octets.{value, bytes, lowValue, lowBytes, part, Octets, splice}
 
@@ -172,3 +172,74 @@ sets-lent a n l ws h k =
     ∙ sym (sets-splice ws d 0 (rw length-drop (omega arith))))
     ∙ sets-part a l ws 0 (omega arith)
     ∙ ap (λ (k : ℕ). sets l k ws) (let e : a + 0 ≡ a = omega arith in e)
+
+-- ---- a run of octets that is a value itself
+
+-- two runs with the same octets hold the same number
+value-same : (s t : List ℕ) (a b n : ℕ) → ((i : ℕ) → i < n → getD s (a + i) 0 ≡ getD t (b + i) 0) → value s a n ≡ value t b n
+unfolding value
+value-same s t a b zero h = refl
+value-same s t a b (suc n) h =
+    let last : n < suc n = omega arith in
+    ap₂ (λ (x y : ℕ). x * 256 + y) (value-same s t a b n (λ (i : ℕ) (k : i < n). let l : i < suc n = omega arith in h i l)) (h n last)
+
+-- the number behind the first n octets
+pub value-drop : (n : ℕ) (s : List ℕ) (at k : ℕ) → value (drop n s) at k ≡ value s (n + at) k
+value-drop n s at k = value-same (drop n s) s at (n + at) k (λ (i : ℕ) (h : i < k). getD-drop n s (at + i) 0 ∙ (let z : n + (at + i) ≡ n + at + i = omega arith in ap (λ (j : ℕ). getD s j 0) z))
+
+-- the number in a run, wherever the run stands
+pub value-here : (v pre behind : List ℕ) (n : ℕ) → length v ≡ n → value (pre ++ (v ++ behind)) (length pre) n ≡ value v 0 n
+value-here v pre behind n e =
+    value-same (pre ++ (v ++ behind)) v (length pre) 0 n
+    (λ (i : ℕ) (h : i < n).
+    let l : i < length v = omega (arith, e) in
+    let z : i ≡ 0 + i = omega arith in
+    getD-append-add pre (v ++ behind) i 0 ∙ List·getD-append v behind 0 i l ∙ ap (λ (k : ℕ). getD v k 0) z)
+
+-- the number in a part
+pub value-part : (s : List ℕ) (at n : ℕ) → value (part s at n) 0 n ≡ value s at n
+value-part s at n =
+    value-same (part s at n) s 0 at n
+    (λ (i : ℕ) (h : i < n).
+    let z : 0 + i ≡ i = omega arith in
+    ap (λ (k : ℕ). getD (part s at n) k 0) z ∙ getD-take n (drop at s) i 0 h ∙ getD-drop at s i 0)
+
+pub part-here : (v pre behind : List ℕ) (n : ℕ) → length v ≡ n → part (pre ++ (v ++ behind)) (length pre) n ≡ v
+part-here v pre behind n e = ap (take n) (drop-at pre (v ++ behind) (length pre) refl) ∙ take-at v behind n e
+
+pub length-part : (s : List ℕ) (at n : ℕ) → at + n ≤ length s → length (part s at n) ≡ n
+length-part s at n h = rw (length-take, length-drop) (omega arith)
+
+-- zeros behind a list hold the number 0
+pub value-zeros : (l : List ℕ) (z : ℕ) → value (l ++ replicate z 0) (length l) z ≡ 0
+value-zeros l z =
+    ap (λ (w : List ℕ). value (l ++ w) (length l) z) (sym (append-nil (bytes z 0) ∙ bytes-zero z))
+    ∙ value-bytes z 0 l [] (one-le-pow z 256 (omega arith))
+
+-- a run that holds the number 0 is zeros
+zero-part : (s : List ℕ) (at n : ℕ) → at + n ≤ length s → value s at n ≡ 0 → part s at n ≡ replicate n 0
+unfolding value
+zero-part s at zero h e = refl
+zero-part s at (suc n) h e =
+    let v : value s at n ≡ 0 = omega arith in
+    let x : getD s (at + n) 0 ≡ 0 = omega arith in
+    let g : n < length (drop at s) = rw length-drop (omega arith) in
+    take-suc (drop at s) n 0 g
+    ∙ ap₂ (λ (a : List ℕ) (b : ℕ). a ++ (b ∷ [])) (zero-part s at n (omega arith) v) (getD-drop at s n 0 ∙ x)
+    ∙ replicate-append-replicate n 1 0
+    ∙ (let q : n + 1 ≡ suc n = omega arith in ap (λ (k : ℕ). replicate k 0) q)
+
+-- a list whose last z values are zero
+pub zeros-behind : (v : List ℕ) (n z : ℕ) → length v ≡ n + z → value v n z ≡ 0 → take n v ++ replicate z 0 ≡ v
+zeros-behind v n z l e =
+    ap (λ (w : List ℕ). take n v ++ w) (sym (zero-part v n z (omega (arith, l)) e) ∙ take-all z (drop n v) (rw length-drop (omega (arith, l))))
+    ∙ take-append-drop n v
+
+-- stores from the first octet of zeros
+pub sets-zeros : (ws : List ℕ) (k z : ℕ) → length ws + z ≡ k → sets (replicate k 0) 0 ws ≡ ws ++ replicate z 0
+sets-zeros ws k z e =
+    let r : replicate {A = ℕ} k 0 ≡ replicate (length ws) 0 ++ replicate z 0 = ap (λ (n : ℕ). replicate n 0) (sym e) ∙ sym (replicate-append-replicate (length ws) z 0) in
+    let n : 0 + length ws ≡ length ws = omega arith in
+    sets-eq ws (replicate k 0) 0 (omega (arith, length-replicate {A = ℕ} k 0))
+    ∙ ap₂ (λ (i : ℕ) (l : List ℕ). ws ++ drop i l) n r
+    ∙ ap (λ (l : List ℕ). ws ++ l) (drop-at (replicate (length ws) 0) (replicate z 0) (length ws) (length-replicate (length ws) 0))

@@ -1,8 +1,8 @@
 -- The two tests and the message are those of the rule.
+use borrow.Author.Needs.{needs}
 use mathlib.Core.Path.{_∙_}
 use Rattle.messages.proofs.ReadLaws.{decided}
 use Rattle.messages.specs.Table.{attenProfileInd}
-use borrow.Author.Needs.{needs}
 use Rattle.messages.proofs.reader.atten_profile_ind.Statement.{statement}
 use Rattle.messages.proofs.reader.atten_profile_ind.Tie as tie
 
@@ -18,8 +18,8 @@ is-unicast-requires-2 c κs = search needs
 is-unicast-requires-3 : tie.Need-is-unicast-requires-3
 is-unicast-requires-3 c κs = search needs
 
-number-at-requires-2 : tie.Need-number-at-requires-2
-number-at-requires-2 c κs = search needs
+count-at-requires : tie.Need-count-at-requires
+count-at-requires c κs = search needs
 
 decide-requires : tie.Need-decide-requires
 decide-requires c κs = search needs
@@ -27,8 +27,8 @@ decide-requires c κs = search needs
 returns : tie.Need-returns
 returns c =
     let a = c .before .before .before .before .before .before .before .args in
-    decided attenProfileInd (a .dst) (a .src) (a .p .now) (c .decide .result)
-    (λ g. c .decide .ensures g ∙ simp (c .before .before .before .before .before .number-at .ensures, c .before .before .before .before .is-unicast .ensures, c .before .before .before .is-unicast2 .ensures, c .before .before .is-unicast3 .ensures, c .before .number-at2 .ensures))
+    decided (a .edition) attenProfileInd (a .count) (a .dst) (a .src) (a .p .now) (c .decide .result) tt
+    (λ b. c .decide .ensures (a .edition) b ∙ simp (c .before .before .before .before .before .number-at .ensures, c .before .before .before .before .is-unicast .ensures, c .before .before .before .is-unicast2 .ensures, c .before .before .is-unicast3 .ensures, c .before .count-at .ensures))
 
 pub atten-profile-ind-spec : {M : Type 1} → statement M
 atten-profile-ind-spec =
@@ -38,6 +38,6 @@ atten-profile-ind-spec =
     is-unicast-requires
     is-unicast-requires-2
     is-unicast-requires-3
-    number-at-requires-2
+    count-at-requires
     decide-requires
     returns)

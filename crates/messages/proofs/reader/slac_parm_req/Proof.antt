@@ -1,8 +1,8 @@
 -- The two tests and the message are those of the rule.
-use mathlib.Core.Path.{_∙_}
+use borrow.Author.Needs.{needs}
+use mathlib.Core.Path.{refl, _∙_}
 use Rattle.messages.proofs.ReadLaws.{decided}
 use Rattle.messages.specs.Table.{slacParmReq}
-use borrow.Author.Needs.{needs}
 use Rattle.messages.proofs.reader.slac_parm_req.Statement.{statement}
 use Rattle.messages.proofs.reader.slac_parm_req.Tie as tie
 
@@ -21,10 +21,15 @@ decide-requires c κs = search needs
 returns : tie.Need-returns
 returns c =
     let a = c .before .before .before .before .before .args in
-    decided slacParmReq (a .dst) (a .src) (a .p .now) (c .decide .result)
-    (λ g. c .decide .ensures g ∙ simp (c .before .before .before .number-at .ensures, c .before .before .is-unicast .ensures, c .before .is-zero .ensures))
+    decided (a .edition) slacParmReq 0 (a .dst) (a .src) (a .p .now) (c .decide .result) refl
+    (λ b. c .decide .ensures (a .edition) b ∙ simp (c .before .before .before .number-at .ensures, c .before .before .is-unicast .ensures, c .before .is-zero .ensures))
 
 pub slac-parm-req-spec : {M : Type 1} → statement M
 slac-parm-req-spec =
     tie.close
-    (tie.spec number-at-requires is-unicast-requires is-zero-requires decide-requires returns)
+    (tie.spec
+    number-at-requires
+    is-unicast-requires
+    is-zero-requires
+    decide-requires
+    returns)

@@ -1,9 +1,9 @@
 -- The two tests and the message are those of the rule.
-use mathlib.Core.Path.{_∙_}
+use borrow.Author.Needs.{needs}
+use mathlib.Core.Path.{refl, _∙_}
 use Rattle.octets.proofs.LoopLaws.{value-one, low-value-one}
 use Rattle.messages.proofs.ReadLaws.{decided}
 use Rattle.messages.specs.Table.{validateCnf}
-use borrow.Author.Needs.{needs}
 use Rattle.messages.proofs.reader.validate_cnf.Statement.{statement}
 use Rattle.messages.proofs.reader.validate_cnf.Tie as tie
 
@@ -28,8 +28,8 @@ decide-requires c κs = search needs
 returns : tie.Need-returns
 returns c =
     let a = c .before .before .before .before .before .before .before .args in
-    decided validateCnf (a .dst) (a .src) (a .p .now) (c .decide .result)
-    (λ g. c .decide .ensures g ∙ simp (c .before .before .before .before .before .octet-at .ensures ∙ value-one (a .p .now) 1, c .before .before .before .before .octet-at2 .ensures ∙ low-value-one (a .p .now) 2, c .before .before .before .is-unicast .ensures, c .before .before .is-unicast2 .ensures, c .before .is-zero .ensures))
+    decided (a .edition) validateCnf 0 (a .dst) (a .src) (a .p .now) (c .decide .result) refl
+    (λ b. c .decide .ensures (a .edition) b ∙ simp (c .before .before .before .before .before .octet-at .ensures ∙ value-one (a .p .now) 1, c .before .before .before .before .octet-at2 .ensures ∙ low-value-one (a .p .now) 2, c .before .before .before .is-unicast .ensures, c .before .before .is-unicast2 .ensures, c .before .is-zero .ensures))
 
 pub validate-cnf-spec : {M : Type 1} → statement M
 validate-cnf-spec =

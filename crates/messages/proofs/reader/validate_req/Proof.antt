@@ -1,9 +1,9 @@
 -- The two tests and the message are those of the rule.
-use mathlib.Core.Path.{_∙_}
+use borrow.Author.Needs.{needs}
+use mathlib.Core.Path.{refl, _∙_}
 use Rattle.octets.proofs.LoopLaws.{low-value-one}
 use Rattle.messages.proofs.ReadLaws.{decided}
 use Rattle.messages.specs.Table.{validateReq}
-use borrow.Author.Needs.{needs}
 use Rattle.messages.proofs.reader.validate_req.Statement.{statement}
 use Rattle.messages.proofs.reader.validate_req.Tie as tie
 
@@ -34,8 +34,8 @@ decide-requires c κs = search needs
 returns : tie.Need-returns
 returns c =
     let a = c .before .before .before .before .before .before .before .before .args in
-    decided validateReq (a .dst) (a .src) (a .p .now) (c .decide .result)
-    (λ g. c .decide .ensures g ∙ simp (c .before .before .before .before .before .before .octet-at .ensures ∙ low-value-one (a .p .now) 1, c .before .before .before .before .before .is-unicast .ensures, c .before .before .before .before .is-receiver .ensures, c .before .before .before .is-zero .ensures, c .before .before .timer-limit .ensures, c .before .number-at .ensures))
+    decided (a .edition) validateReq 0 (a .dst) (a .src) (a .p .now) (c .decide .result) refl
+    (λ b. c .decide .ensures (a .edition) b ∙ simp (c .before .before .before .before .before .before .octet-at .ensures ∙ low-value-one (a .p .now) 1, c .before .before .before .before .before .is-unicast .ensures, c .before .before .before .before .is-receiver .ensures, c .before .before .before .is-zero .ensures, c .before .before .timer-limit .ensures, c .before .number-at .ensures))
 
 pub validate-req-spec : {M : Type 1} → statement M
 validate-req-spec =

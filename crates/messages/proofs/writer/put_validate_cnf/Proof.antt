@@ -20,7 +20,7 @@ same-length c = search needs
 returns : tie.Need-returns
 returns c =
     let a = c .before .before .before .before .before .before .before .before .before .before .before .before .before .args in
-    λ d f. rw (c .before .before .put-low-number .ensures, c .before .before .before .before .before .before .put-number2 .ensures, c .before .before .before .before .before .before .before .before .before .before .put-number .ensures) (store-encode (payload validateCnf d f) (a .toggles, (a .result, tt)) 0 (a .out .now) tt)
+    λ e d f. rw (c .before .before .put-low-number .ensures, c .before .before .before .before .before .before .put-number2 .ensures, c .before .before .before .before .before .before .before .before .before .before .put-number .ensures) (store-encode (payload e validateCnf 0 d f) (a .toggles, (a .result, tt)) 0 (a .out .now) tt)
 
 pub put-validate-cnf-spec : {M : Type 1} → statement M
 put-validate-cnf-spec =

@@ -20,7 +20,7 @@ same-length c = search needs
 returns : tie.Need-returns
 returns c =
     let a = c .before .before .before .before .before .before .before .before .before .before .before .before .before .args in
-    λ d f. rw (c .before .before .put-number2 .ensures, c .before .before .before .before .before .before .put-low-number .ensures, c .before .before .before .before .before .before .before .before .before .before .put-number .ensures) (store-encode (payload validateReq d f) (a .timer, tt) 0 (a .out .now) tt)
+    λ e d f. rw (c .before .before .put-number2 .ensures, c .before .before .before .before .before .before .put-low-number .ensures, c .before .before .before .before .before .before .before .before .before .before .put-number .ensures) (store-encode (payload e validateReq 0 d f) (a .timer, tt) 0 (a .out .now) tt)
 
 pub put-validate-req-spec : {M : Type 1} → statement M
 put-validate-req-spec =
