@@ -64,7 +64,7 @@ writable-as m k n e w = subst (λ (x : Message). Writable x n) (sym e) w
 
 -- what can be written is written, and sent
 module _ (m : Message) (out : List ℕ) (w : Writable m (length out)) where
-  written-as : writeRules m (length out) ≡ yes (frame m)
+  pub written-as : writeRules m (length out) ≡ yes (frame m)
   written-as = sym (writes m out (w .addressed) (w .limited) (w .room))
 
   pub written-octets : (exit : List ℕ) → exit ≡ splice 0 (octetsOf (writeRules m (length out))) out → exit ≡ splice 0 (frame m) out

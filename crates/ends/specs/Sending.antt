@@ -6,8 +6,8 @@ use mathlib.Core.List.{List, [], _∷_}
 use lib.ListN.{length}
 use Rattle.octets.specs.Octets.{splice}
 use Rattle.messages.specs.Reading.{yes}
-use Rattle.messages.specs.Table.{Message, writtenSize}
-use Rattle.messages.specs.Writing.{isAddressed, isLimited, writeRules}
+use Rattle.messages.specs.Table.{Message}
+use Rattle.messages.specs.Writing.{isAddressed, isLimited, lengthIn, writeRules}
 use Rattle.ends.specs.declared.Answer.{Answer}
 use Rattle.ends.specs.declared.Indication.{Indication}
 use Rattle.ends.specs.Outcomes.{Outcome, framesOf, joined, andThen}
@@ -26,4 +26,4 @@ pub record Sends (m : Message) (x : Indication) (entry exit : List ℕ) (r : Ans
 pub record Writable (m : Message) (n : ℕ) : Type 0 where
   pub addressed : isAddressed m ≡ true
   pub limited : isLimited m ≡ true
-  pub room : writtenSize (m .kind) ≤ n
+  pub room : lengthIn m ≤ n

@@ -2,13 +2,15 @@
 pub mod fields;
 pub mod runs;
 
+use messages::Edition;
 use messages::GroupValues;
+use messages::Ids;
 use messages::Message;
 use messages::Refusal;
 use messages::Written;
 ghost use mathlib.Core.Path.{_≡_};
 ghost use Prim.Native.Nat.{_-_};
-ghost use Rattle.messages.specs.Answers.{messageOf};
+ghost use Rattle.messages.specs.Answers.{messageOf, besides};
 ghost use Rattle.ends.specs.Answers.{indicationNumber};
 ghost use Rattle.ends.specs.Clock as clock;
 ghost use Rattle.ends.specs.Clock.{tickTimeOf, tickTime};
@@ -102,11 +104,18 @@ pub fn left_after(time: u32, elapsed: u32) -> u32
     if time <= elapsed { 0 } else { time - elapsed }
 }
 
-// Writes a message from the output's first octet and tells of its one frame, with an indication; or what writing refuses.
-pub fn send(message: Message, values: GroupValues, indication: Indication, out: &mut [u8]) -> Answer
-    ensures { λ r. ⌜ Sends (messageOf message values) indication (now (out .entry)) (now (out .exit)) r ⌝ }
+// Writes a message in an edition from the output's first octet and tells of its one frame, with an indication; or what writing refuses.
+pub fn send(
+    edition: Edition,
+    message: Message,
+    values: GroupValues,
+    ids: Ids,
+    indication: Indication,
+    out: &mut [u8],
+) -> Answer
+    ensures { λ r. ⌜ Sends (messageOf edition message (besides values ids)) indication (now (out .entry)) (now (out .exit)) r ⌝ }
 {
-    let written = messages::write(message, values, out);
+    let written = messages::write(edition, message, values, ids, out);
     match written {
         Written::Octets(octets) => Answer::Done {
             frames: 1,
