@@ -9,6 +9,7 @@ use lib.Dec.{eqb, leb}
 use lib.ListN.{length}
 use types.Run.{OneOf, miss}
 use Rattle.messages.specs.declared.CarAddress.{CarAddress}
+use Rattle.messages.specs.declared.Edition.the-variants.{Iso}
 use Rattle.messages.specs.declared.Message.{Message}
 use Rattle.messages.specs.declared.Message.the-variants.{SlacParmReq, SlacParmCnf, StartAttenCharInd, AttenCharInd, AttenCharRsp, MnbcSoundInd, ValidateReq, ValidateCnf, SlacMatchReq, SlacMatchCnf, AttenProfileInd}
 use Rattle.messages.specs.declared.ReadAnswer.{ReadAnswer}
@@ -16,7 +17,7 @@ use Rattle.messages.specs.declared.ReadAnswer.the-variants as readAnswer
 use Rattle.messages.specs.declared.Refusal.{Refusal}
 use Rattle.messages.specs.declared.Refusal.the-variants.{NotForUs}
 use Rattle.messages.specs.Answers.{numberOf, messageOf, answerOf}
-use Rattle.messages.specs.Reading.{Checked, no, yes, check, groupsOf, readRules}
+use Rattle.messages.specs.Reading.{Checked, no, yes, check, Beside, besideOf, readRules}
 use Rattle.messages.specs.Table as table
 use Rattle.messages.specs.Table.{isUnicast}
 use Rattle.messages.proofs.CheckLaws.{pass, fail, passed}
@@ -38,7 +39,7 @@ use Rattle.car_rules.proofs.ReceivedLaws.{FromUnicast, received-unicast}
 use Rattle.car.specs.declared.judge.Judged.{Judged}
 use Rattle.car.specs.declared.judge.Judged.the-variants as judged
 use Rattle.car.specs.declared.judge.Received as code
-use Rattle.car.specs.Judge.{Heard, heardIn, forUsRule, addressedRule, judgeRule, judgedOf, forUs, receivedOf}
+use Rattle.car.specs.Judge.{groupsIn, Heard, heardIn, forUsRule, addressedRule, judgeRule, judgedOf, forUs, receivedOf}
 use Rattle.car.specs.Reports.{ReportsGood}
 use Rattle.car.specs.Steps.{Ready}
 
@@ -58,15 +59,15 @@ module _ (o : Configuration) (room : ℕ) (s : List ℕ) where
 
     module _ (h : leastOutput ≤ room) where
       -- reading, 19, 7
-      judged-read : judgeRule o room s ≡ forUsRule o (receivedIn (readRules s))
+      judged-read : judgeRule o room s ≡ forUsRule o (receivedIn (readRules Iso s))
       unfolding judgeRule received
       judged-read = pass (o .good) 16 _ (not-false (o .good) g) ∙ pass (leb leastOutput room) 15 _ (le-leb leastOutput room h)
 
-      module _ (a : ReadAnswer) (e : answerOf a (groupsOf (readRules s)) ≡ readRules s) where
+      module _ (a : ReadAnswer) (e : answerOf Iso a (besideOf (readRules Iso s)) ≡ readRules Iso s) where
         -- by what reading answers
-        judged-answer : (b : ReadAnswer) → a ≡ b → forUsRule o (receivedIn (answerOf b (groupsOf (readRules s)))) ≡ judgeRule o room s
+        judged-answer : (b : ReadAnswer) → a ≡ b → forUsRule o (receivedIn (answerOf Iso b (besideOf (readRules Iso s)))) ≡ judgeRule o room s
         judged-answer b t =
-            ap (λ (z : ReadAnswer). forUsRule o (receivedIn (answerOf z (groupsOf (readRules s))))) (sym t)
+            ap (λ (z : ReadAnswer). forUsRule o (receivedIn (answerOf Iso z (besideOf (readRules Iso s))))) (sym t)
             ∙ ap (λ (z : Checked table.Message). forUsRule o (receivedIn z)) e
             ∙ sym judged-read
 
@@ -75,8 +76,8 @@ module _ (o : Configuration) (room : ℕ) (s : List ℕ) where
         judged-unread x t = judged-answer (readAnswer.Refused x) t
 
         -- what was read
-        pub judged-message : (m : Message) (j : Judged) → a ≡ readAnswer.Read m → ((g : List ℕ) → judgedOf j g ≡ addressedRule o (messageOf m g)) → judgedOf j (groupsOf (readRules s)) ≡ judgeRule o room s
-        judged-message m j t p = p (groupsOf (readRules s)) ∙ judged-answer (readAnswer.Read m) t
+        pub judged-message : (m : Message) (j : Judged) → a ≡ readAnswer.Read m → ((b : Beside) → judgedOf j (b .groups) ≡ addressedRule o (messageOf Iso m b)) → judgedOf j (groupsIn s) ≡ judgeRule o room s
+        judged-message m j t p = p (besideOf (readRules Iso s)) ∙ judged-answer (readAnswer.Read m) t
 
 -- ---- 7 and 19
 
@@ -95,22 +96,22 @@ for-us-rule false x g = refl
 
 -- a message of a station, in the message m that was found to be m′
 pub addressed-as : (o : Configuration) (c : CarAddress) (x : code.Received) (m m′ : Message) (j : Judged) → j ≡ forUs o c x → m ≡ m′
-    → ((g : List ℕ) → check (ours o c x) 7 (yes (heardOf x g)) ≡ addressedRule o (messageOf m′ g)) → (g : List ℕ) → judgedOf j g ≡ addressedRule o (messageOf m g)
-addressed-as o c x m m′ j e t h g = ap (λ (y : Judged). judgedOf y g) e ∙ for-us-rule (ours o c x) x g ∙ h g ∙ sym (ap (λ (y : Message). addressedRule o (messageOf y g)) t)
+    → ((b : Beside) → check (ours o c x) 7 (yes (heardOf x (b .groups))) ≡ addressedRule o (messageOf Iso m′ b)) → (b : Beside) → judgedOf j (b .groups) ≡ addressedRule o (messageOf Iso m b)
+addressed-as o c x m m′ j e t h b = ap (λ (y : Judged). judgedOf y (b .groups)) e ∙ for-us-rule (ours o c x) x (b .groups) ∙ h b ∙ sym (ap (λ (y : Message). addressedRule o (messageOf Iso y b)) t)
 
 -- 19
-pub only-stations : (o : Configuration) (m : Message) (g : List ℕ) → OneOf (0 ∷ 2 ∷ 4 ∷ 5 ∷ 6 ∷ 8 ∷ 10 ∷ []) (tagOf the-type m) → no 19 ≡ addressedRule o (messageOf m g)
-only-stations o (SlacParmReq c r) g t = refl
-only-stations o (SlacParmCnf s c r) g t = absurd (miss (0 ∷ 2 ∷ 4 ∷ 5 ∷ 6 ∷ 8 ∷ 10 ∷ []) 1 tt t)
-only-stations o (StartAttenCharInd c r) g t = refl
-only-stations o (AttenCharInd s c r n) g t = absurd (miss (0 ∷ 2 ∷ 4 ∷ 5 ∷ 6 ∷ 8 ∷ 10 ∷ []) 3 tt t)
-only-stations o (AttenCharRsp c s r) g t = refl
-only-stations o (MnbcSoundInd c n r x) g t = refl
-only-stations o (ValidateReq c x d) g t = refl
-only-stations o (ValidateCnf s n c x) g t = absurd (miss (0 ∷ 2 ∷ 4 ∷ 5 ∷ 6 ∷ 8 ∷ 10 ∷ []) 7 tt t)
-only-stations o (SlacMatchReq c s r) g t = refl
-only-stations o (SlacMatchCnf s c r n k) g t = absurd (miss (0 ∷ 2 ∷ 4 ∷ 5 ∷ 6 ∷ 8 ∷ 10 ∷ []) 9 tt t)
-only-stations o (AttenProfileInd m s c) g t = refl
+pub only-stations : (o : Configuration) (m : Message) (b : Beside) → OneOf (0 ∷ 2 ∷ 4 ∷ 5 ∷ 6 ∷ 8 ∷ 10 ∷ []) (tagOf the-type m) → no 19 ≡ addressedRule o (messageOf Iso m b)
+only-stations o (SlacParmReq c r) b t = refl
+only-stations o (SlacParmCnf s c a r) b t = absurd (miss (0 ∷ 2 ∷ 4 ∷ 5 ∷ 6 ∷ 8 ∷ 10 ∷ []) 1 tt t)
+only-stations o (StartAttenCharInd c a r) b t = refl
+only-stations o (AttenCharInd s c r n g) b t = absurd (miss (0 ∷ 2 ∷ 4 ∷ 5 ∷ 6 ∷ 8 ∷ 10 ∷ []) 3 tt t)
+only-stations o (AttenCharRsp c s r) b t = refl
+only-stations o (MnbcSoundInd c n r x) b t = refl
+only-stations o (ValidateReq c x d) b t = refl
+only-stations o (ValidateCnf s n c x) b t = absurd (miss (0 ∷ 2 ∷ 4 ∷ 5 ∷ 6 ∷ 8 ∷ 10 ∷ []) 7 tt t)
+only-stations o (SlacMatchReq c s r) b t = refl
+only-stations o (SlacMatchCnf s c r n k) b t = absurd (miss (0 ∷ 2 ∷ 4 ∷ 5 ∷ 6 ∷ 8 ∷ 10 ∷ []) 9 tt t)
+only-stations o (AttenProfileInd m s c g) b t = refl
 
 -- ---- the frame's rule by what judging gives
 
@@ -140,9 +141,9 @@ station-unicast o (no n) y u e = clash false (passed false n (yes y) y e .0) ref
 station-unicast o (yes z) y u e = subst (λ (h : Heard). isUnicast (h .station .0) ≡ true) (yes-same (heardIn z) y (passed (isForUs o z) 7 (yes (heardIn z)) y e .1)) u
 
 -- by what judging answers
-module _ (c : Car) (s out : List ℕ) (j : Judged) (ej : judgedOf j (groupsOf (readRules s)) ≡ judgeRule (c .config) (length out) s) where
-  judged-as : (k : Judged) → j ≡ k → judgeRule (c .config) (length out) s ≡ judgedOf k (groupsOf (readRules s))
-  judged-as k told = sym ej ∙ ap (λ (x : Judged). judgedOf x (groupsOf (readRules s))) told
+module _ (c : Car) (s out : List ℕ) (j : Judged) (ej : judgedOf j (groupsIn s) ≡ judgeRule (c .config) (length out) s) where
+  judged-as : (k : Judged) → j ≡ k → judgeRule (c .config) (length out) s ≡ judgedOf k (groupsIn s)
+  judged-as k told = sym ej ∙ ap (λ (x : Judged). judgedOf x (groupsIn s)) told
 
   -- a refusal
   pub frame-refused : (n : Refusal) → j ≡ judged.Refused n → rules.rule c (calls.frame s (length out)) ≡ no (numberOf n)
@@ -151,14 +152,14 @@ module _ (c : Car) (s out : List ℕ) (j : Judged) (ej : judgedOf j (groupsOf (r
   -- a message
   module _ (x : code.Received) (told : j ≡ judged.Taken x) where
     -- what the rule gives
-    pub frame-taken : rules.rule c (calls.frame s (length out)) ≡ stateRule c (receivedOf 0 x (groupsOf (readRules s)))
+    pub frame-taken : rules.rule c (calls.frame s (length out)) ≡ stateRule c (receivedOf 0 x (groupsIn s))
     frame-taken = frame-judged c s (length out) ∙ ap (λ (w : Checked Heard). andThen w (taken c)) (judged-as (judged.Taken x) told)
 
     -- frames can be written, the reports are as the invariant says, and the station is unicast
     pub frame-ready : Invariant c → Ready c out × ReportsGood c × (isUnicast (x .station .0) ≡ true)
     unfolding judgeRule
     frame-ready i =
-        let y = heardOf x (groupsOf (readRules s)) in
+        let y = heardOf x (groupsIn s) in
         let g = passed (c .config .good) 16 _ y (judged-as (judged.Taken x) told) in
         let r = passed (leb leastOutput (length out)) 15 _ y (g .1) in (
           record { address = i .config .address (g .0); room = leb-true leastOutput (length out) (r .0) },

@@ -4,11 +4,12 @@ use mathlib.Core.Bool.{not, cond, _&&_}
 use mathlib.Core.List.{List}
 use lib.Dec.{eqb, leb}
 use Rattle.messages.specs.declared.CarAddress.{CarAddress}
+use Rattle.messages.specs.declared.Edition.the-variants.{Iso}
 use Rattle.messages.specs.declared.Refusal.the-variants.{NotForUs}
 use Rattle.messages.specs.declared.RunId.{RunId}
 use Rattle.messages.specs.declared.StationAddress.{StationAddress}
 use Rattle.messages.specs.Answers.{numberOf}
-use Rattle.messages.specs.Reading.{Checked, no, yes, check}
+use Rattle.messages.specs.Reading.{Checked, no, yes, check, besideOf, readRules}
 use Rattle.messages.specs.Table.{Message}
 use Rattle.ends.specs.Outcomes.{andThen}
 use Rattle.car_rules.specs.declared.Configuration.{Configuration}
@@ -20,6 +21,10 @@ use Rattle.car.specs.declared.judge.Judged.the-variants as judged
 use Rattle.car.specs.declared.judge.Received.{Received}
 use Rattle.car.specs.declared.judge.StationMessage.{StationMessage}
 use Rattle.car.specs.declared.judge.StationMessage.the-variants.{ParmCnf, Report, MatchCnf, Validation}
+
+-- the group values of the message that a frame's octets read as
+abbrev pub groupsIn : List ℕ → List ℕ
+groupsIn s = besideOf (readRules Iso s) .groups
 
 -- a message, with the group values g beside it
 abbrev pub messageOf : StationMessage → List ℕ → rule.StationMessage

@@ -13,6 +13,7 @@ use car_rules::State;
 use car_rules::Stepped;
 use ends::Indication;
 use ends::JOINING_TIME;
+use messages::Edition;
 use messages::Nid;
 use messages::Nmk;
 use messages::Refusal;
@@ -21,11 +22,10 @@ ghost use Prim.Native.Nat.{ℕ};
 ghost use mathlib.Core.Path.{_≡_};
 ghost use mathlib.Core.Bool.{true};
 ghost use mathlib.Core.List.{List};
-ghost use Rattle.messages.specs.Reading.{groupsOf, readRules};
 ghost use Rattle.messages.specs.Table.{isUnicast};
 ghost use Rattle.car_rules.specs.Frames as rule;
 ghost use Rattle.car_rules.specs.Frames.{gathers, repeats, effectIn, effectRule, stateRule};
-ghost use Rattle.car.specs.Judge.{receivedOf, messageOf};
+ghost use Rattle.car.specs.Judge.{groupsIn, receivedOf, messageOf};
 ghost use Rattle.car.specs.Frames.{effectOf, effectAnswerOf, onlyParmCnf};
 ghost use Rattle.car.specs.Steps.{Comes, Ready};
 ghost use Rattle.car.specs.Reports.{ReportsGood};
@@ -123,7 +123,7 @@ fn from_chosen(state: State, station: StationAddress) -> bool
 // A report in Sounding: 20 where it tells of no sounds; else it is answered, and a station's first one is kept: 18 where there is no place for it.
 fn gather(car: Car, station: StationAddress, sounds: u8, octets: &[u8], out: &mut [u8]) -> Stepped
     requires { ⌜ Ready car (now out) × ReportsGood car × (isUnicast (station .0) ≡ true) ⌝ }
-    ensures { λ r. ⌜ Comes car (effectRule car station (gathers sounds (groupsOf (readRules (now (octets .entry)))))) (now (out .entry)) (now (out .exit)) r ⌝ }
+    ensures { λ r. ⌜ Comes car (effectRule car station (gathers sounds (groupsIn (now (octets .entry))))) (now (out .entry)) (now (out .exit)) r ⌝ }
 {
     let reports = car.reports;
     let count = car.count;
@@ -136,7 +136,7 @@ fn gather(car: Car, station: StationAddress, sounds: u8, octets: &[u8], out: &mu
     if STATIONS <= count {
         return cars::refused(car, Refusal::ReportsFull);
     }
-    let total = reports::total(messages::groups(octets));
+    let total = reports::total(messages::groups(Edition::Iso, octets));
     let report = Report {
         station: station,
         total: total,
@@ -164,7 +164,7 @@ fn apply(
     out: &mut [u8],
 ) -> Stepped
     requires { ⌜ Ready car (now out) × ReportsGood car × (isUnicast (station .0) ≡ true) ⌝ }
-    ensures { λ r. ⌜ Comes car (effectRule car station (effectOf effect (groupsOf (readRules (now (octets .entry)))))) (now (out .entry)) (now (out .exit)) r ⌝ }
+    ensures { λ r. ⌜ Comes car (effectRule car station (effectOf effect (groupsIn (now (octets .entry))))) (now (out .entry)) (now (out .exit)) r ⌝ }
 {
     match effect {
         Effect::Confirms => cars::silent(
@@ -192,7 +192,7 @@ fn apply(
 // A station's message to us: 8, 11, then what it does.
 pub(crate) fn take(car: Car, received: Received, octets: &[u8], out: &mut [u8]) -> Stepped
     requires { ⌜ Ready car (now out) × ReportsGood car × (isUnicast (received .station .0) ≡ true) ⌝ }
-    ensures { λ r. ⌜ ((d : ℕ) → Comes car (stateRule car (receivedOf d received (groupsOf (readRules (now (octets .entry)))))) (now (out .entry)) (now (out .exit)) r) ⌝ }
+    ensures { λ r. ⌜ ((d : ℕ) → Comes car (stateRule car (receivedOf d received (groupsIn (now (octets .entry))))) (now (out .entry)) (now (out .exit)) r) ⌝ }
 {
     let state = car.state;
     let run = car.run;

@@ -2,6 +2,7 @@
 use car_rules::Configuration;
 use car_rules::LEAST_OUTPUT;
 use messages::CarAddress;
+use messages::Edition;
 use messages::Message;
 use messages::Nid;
 use messages::Nmk;
@@ -9,12 +10,10 @@ use messages::ReadAnswer;
 use messages::Refusal;
 use messages::RunId;
 use messages::StationAddress;
-ghost use Prim.Native.Nat.{ℕ};
 ghost use mathlib.Core.Path.{_≡_};
-ghost use mathlib.Core.List.{List};
 ghost use Rattle.messages.specs.Answers.{messageOf};
-ghost use Rattle.messages.specs.Reading.{groupsOf, readRules};
-ghost use Rattle.car.specs.Judge.{judgedOf, addressedRule, judgeRule, forUs};
+ghost use Rattle.messages.specs.Reading.{Beside};
+ghost use Rattle.car.specs.Judge.{groupsIn, judgedOf, addressedRule, judgeRule, forUs};
 
 // A station's message: PARM.CNF, a report with its sounds used, whose group values stand in the frame, MATCH.CNF, or VALIDATE.CNF.
 pub(crate) enum StationMessage {
@@ -52,10 +51,15 @@ fn for_us(config: Configuration, car: CarAddress, received: Received) -> Judged
 
 // By the message: 19 where only a station receives it, then 7.
 fn addressed(config: Configuration, message: Message) -> Judged
-    ensures { λ j. ⌜ ((g : List ℕ) → judgedOf j g ≡ addressedRule config (messageOf message g)) ⌝ }
+    ensures { λ j. ⌜ ((b : Beside) → judgedOf j (b .groups) ≡ addressedRule config (messageOf Edition.Iso message b)) ⌝ }
 {
     match message {
-        Message::SlacParmCnf { station, car, run } => for_us(
+        Message::SlacParmCnf {
+            station,
+            car,
+            attempt: _,
+            run,
+        } => for_us(
             config,
             car,
             Received {
@@ -69,6 +73,7 @@ fn addressed(config: Configuration, message: Message) -> Judged
             car,
             run,
             sounds,
+            count: _,
         } => for_us(
             config,
             car,
@@ -113,7 +118,7 @@ fn addressed(config: Configuration, message: Message) -> Judged
 
 // All that needs no state, in its order.
 pub(crate) fn judge(config: Configuration, octets: &[u8], room: usize) -> Judged
-    ensures { λ j. ⌜ judgedOf j (groupsOf (readRules (now (octets .entry)))) ≡ judgeRule config room (now (octets .entry)) ⌝ }
+    ensures { λ j. ⌜ judgedOf j (groupsIn (now (octets .entry))) ≡ judgeRule config room (now (octets .entry)) ⌝ }
 {
     if !config.good {
         return Judged::Refused(Refusal::BadConfiguration);
@@ -121,7 +126,7 @@ pub(crate) fn judge(config: Configuration, octets: &[u8], room: usize) -> Judged
     if room < LEAST_OUTPUT {
         return Judged::Refused(Refusal::OutputTooShort);
     }
-    let answer = messages::read(octets);
+    let answer = messages::read(Edition::Iso, octets);
     match answer {
         ReadAnswer::Refused(refusal) => Judged::Refused(refusal),
         ReadAnswer::Read(message) => addressed(config, message),

@@ -4,28 +4,38 @@ use car_rules::SOUNDING_FRAMES;
 use car_rules::STARTS;
 use car_rules::Stepped;
 use ends::Indication;
+use messages::Attempt;
+use messages::Edition;
+use messages::ISO_ATTEMPT;
 use messages::Message;
 use messages::StationAddress;
-ghost use Prim.Native.Nat.{ℕ, _<_};
+ghost use Prim.Native.Nat.{_<_};
 ghost use mathlib.Core.Path.{_≡_};
 ghost use mathlib.Core.Bool.{true};
-ghost use mathlib.Core.List.{List, [], _∷_};
+ghost use mathlib.Core.List.{[], _∷_};
 ghost use lib.ListN.{length};
 ghost use Rattle.messages.specs.Answers.{messageOf};
-ghost use Rattle.messages.specs.Reading.{noGroups};
 ghost use Rattle.messages.specs.Table.{isUnicast};
 ghost use Rattle.ends.specs.Sending.{Writable};
 ghost use Rattle.car_rules.specs.Constants.{frameCount};
 ghost use Rattle.car_rules.specs.Sending as rule;
 ghost use Rattle.car_rules.specs.Sending.{parmReq, rsp, matchReq, messageFrom, done};
+ghost use Rattle.messages.specs.Reading.{noBeside};
 ghost use Rattle.car.specs.Steps.{Gives, Ready, sentBy};
 
-// The car, and one frame of it that can be written.
+// The car, and one frame of it that can be written, in the ISO edition.
 fn sent(car: Car, message: Message, indication: Indication, out: &mut [u8]) -> Stepped
-    requires { ⌜ Writable (messageOf message noGroups) (length (now out)) ⌝ }
-    ensures { λ r. ⌜ Gives (sentBy car (messageOf message noGroups) indication) (now (out .entry)) (now (out .exit)) r ⌝ }
+    requires { ⌜ Writable (messageOf Edition.Iso message noBeside) (length (now out)) ⌝ }
+    ensures { λ r. ⌜ Gives (sentBy car (messageOf Edition.Iso message noBeside) indication) (now (out .entry)) (now (out .exit)) r ⌝ }
 {
-    let answer = ends::send(message, messages::no_groups(), indication, out);
+    let answer = ends::send(
+        Edition::Iso,
+        message,
+        messages::no_groups(),
+        messages::no_ids(),
+        indication,
+        out,
+    );
     Stepped {
         car: car,
         answer: answer,
@@ -50,7 +60,7 @@ pub(crate) fn parm_req(car: Car, out: &mut [u8]) -> Stepped
 // Number k of Sounding's frames: START, or M-SOUND with its count.
 fn sounding_message(car: Car, k: u8) -> Message
     requires { ⌜ k < frameCount ⌝ }
-    ensures { λ m. ⌜ ((g : List ℕ) → messageOf m g ≡ messageFrom car (rule.soundingFrame k)) ⌝ }
+    ensures { λ m. ⌜ messageOf Edition.Iso m noBeside ≡ messageFrom car (rule.soundingFrame k) ⌝ }
 {
     let config = car.config;
     let address = config.address;
@@ -59,6 +69,7 @@ fn sounding_message(car: Car, k: u8) -> Message
     if k < STARTS {
         Message::StartAttenCharInd {
             car: address,
+            attempt: Attempt(ISO_ATTEMPT),
             run: run,
         }
     } else {

@@ -1,7 +1,7 @@
 -- The cases C1 to C10 hold: both sides of the table compute to the same.
 use mathlib.Core.Path.{refl}
 use Rattle.octets.specs.Octets.{value, bytes, lowValue, lowBytes}
-use Rattle.messages.specs.Reading.{kindRules, readRules}
+use Rattle.messages.specs.Reading.{kindRules, readRules, noId}
 use Rattle.messages.specs.Writing as writing
 use Rattle.ends.specs.Clock.{tickTime}
 use Rattle.car_rules.specs.Cars.{noReports}
@@ -15,5 +15,5 @@ use Rattle.car_rules.specs.Demand3.{outcomes}
 use Rattle.car_rules.specs.Cases.{resultOf, table, AllHold}
 
 pub cases-hold : AllHold
-unfolding value bytes lowValue lowBytes kindRules readRules writing.frame tickTime noReports frameFrom received total least choice sameStation effectIn fromChosen hasReported effectRule stateRule frameRule tickDone configured isIdle linkRule rule step outcome keyQuery outcomes resultOf table
+unfolding value bytes lowValue lowBytes kindRules readRules noId writing.frame tickTime noReports frameFrom received total least choice sameStation effectIn fromChosen hasReported effectRule stateRule frameRule tickDone configured isIdle linkRule rule step outcome keyQuery outcomes resultOf table
 cases-hold = refl

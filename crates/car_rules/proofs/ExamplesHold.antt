@@ -1,7 +1,7 @@
 -- The examples of foreign frames, and of others, compute as they must.
 use mathlib.Core.Path.{refl}
 use Rattle.octets.specs.Octets.{value, bytes, lowValue, lowBytes}
-use Rattle.messages.specs.Reading.{kindRules, readRules}
+use Rattle.messages.specs.Reading.{kindRules, readRules, noId}
 use Rattle.messages.specs.Writing as writing
 use Rattle.ends.specs.Clock.{tickTime}
 use Rattle.ends.specs.Lists.{only}
@@ -17,7 +17,7 @@ use Rattle.car_rules.specs.Examples.{Examples}
 use Rattle.ends.proofs.Logic.{clash}
 
 pub examples-hold : Examples
-unfolding value bytes lowValue lowBytes kindRules readRules writing.frame tickTime only noReports frameFrom received total least choice sameStation effectIn fromChosen hasReported effectRule stateRule frameRule tickDone configured isIdle rule step outcome isOfMatching isOurs isOwn isForeign
+unfolding value bytes lowValue lowBytes kindRules readRules noId writing.frame tickTime only noReports frameFrom received total least choice sameStation effectIn fromChosen hasReported effectRule stateRule frameRule tickDone configured isIdle rule step outcome isOfMatching isOurs isOwn isForeign
 examples-hold = record {
   foreign = (λ e. clash _ e refl, (λ e. refl, (λ e. clash _ e refl, (λ e. clash _ e refl, (λ e. refl, (λ e. clash _ e refl, (λ e. clash _ e refl, tt)))))));
   whole = refl;

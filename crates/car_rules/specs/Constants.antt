@@ -41,4 +41,4 @@ mostReference = 255
 
 -- the least output of a start, a frame or a tick: a MATCH.REQ
 abbrev pub leastOutput : ℕ
-leastOutput = writtenSize slacMatchReq
+leastOutput = writtenSize slacMatchReq 0

@@ -4,9 +4,10 @@ use mathlib.Core.Path.{_≡_}
 use mathlib.Core.Bool.{true, false}
 use mathlib.Core.List.{List, [], _∷_, _++_}
 use lib.ListN.{length, replicate}
+use Rattle.messages.specs.declared.Edition.the-variants.{Iso}
 use Rattle.messages.specs.Table as table
-use Rattle.messages.specs.Table.{Message, slacParmCnf, attenCharInd, slacMatchReq, groupCount}
-use Rattle.messages.specs.Reading.{no, yes}
+use Rattle.messages.specs.Table.{Message, slacParmCnf, attenCharInd, slacMatchReq, isoAttempt, groupCount}
+use Rattle.messages.specs.Reading.{no, yes, noId}
 use Rattle.messages.specs.Writing as writing
 use Rattle.ends.specs.declared.Indication.the-variants.{Found}
 use Rattle.ends.specs.Outcomes.{framesOf}
@@ -44,21 +45,21 @@ sent m = frame (writing.frame m) leastOutput
 
 -- PARM.CNF and a report of station n, in a run
 abbrev parmCnf : ℕ → ℕ → Call
-parmCnf n run = sent (record { kind = slacParmCnf; dst = 0x020000000001; src = station n; values = (run, tt) })
+parmCnf n run = sent (record { edition = Iso; kind = slacParmCnf; count = 0; dst = 0x020000000001; src = station n; values = (isoAttempt, (run, tt)) })
 
 abbrev report : ℕ → ℕ → Call
-report n run = sent (record { kind = attenCharInd; dst = 0x020000000001; src = station n; values = (run, (10, (replicate groupCount 5, tt))) })
+report n run = sent (record { edition = Iso; kind = attenCharInd; count = groupCount; dst = 0x020000000001; src = station n; values = (run, (noId, (noId, (10, (replicate groupCount 5, tt))))) })
 
 -- VALIDATE.CNF of station n, with no toggles and the result 01, and VALIDATE.REQ of another car to it
 abbrev validateCnf : ℕ → Call
-validateCnf n = sent (record { kind = table.validateCnf; dst = 0x020000000001; src = station n; values = (0, (1, tt)) })
+validateCnf n = sent (record { edition = Iso; kind = table.validateCnf; count = 0; dst = 0x020000000001; src = station n; values = (0, (1, tt)) })
 
 abbrev validateReq : ℕ → Call
-validateReq n = sent (record { kind = table.validateReq; dst = station n; src = 0x020000000002; values = (0, tt) })
+validateReq n = sent (record { edition = Iso; kind = table.validateReq; count = 0; dst = station n; src = 0x020000000002; values = (0, tt) })
 
 -- MATCH.REQ to station n, in run 1
 abbrev matchReq : ℕ → List ℕ
-matchReq n = writing.frame (record { kind = slacMatchReq; dst = station n; src = 0x020000000001; values = (1, tt) })
+matchReq n = writing.frame (record { edition = Iso; kind = slacMatchReq; count = 0; dst = station n; src = 0x020000000001; values = (noId, (noId, (1, tt))) })
 
 -- ---- the examples
 

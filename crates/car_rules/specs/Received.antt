@@ -3,6 +3,8 @@ use Prim.Native.Nat.{ℕ}
 use mathlib.Core.Bool.{Bool, not, _&&_}
 use mathlib.Core.List.{List}
 use lib.Dec.{eqb}
+use Rattle.messages.specs.declared.Edition.{Edition}
+use Rattle.messages.specs.declared.Edition.the-variants.{Iso}
 use Rattle.messages.specs.declared.Nid.{Nid}
 use Rattle.messages.specs.declared.Nmk.{Nmk}
 use Rattle.messages.specs.declared.RunId.{RunId}
@@ -32,26 +34,26 @@ abbrev pub fromStation : ℕ → ℕ → ℕ → StationMessage → Checked Rece
 fromStation d f n m = yes (record { station = record { 0 = f }; dst = d; run = record { 0 = n }; message = m })
 
 -- by the message: 19 where "only a station receives" it
-abbrev pub receivedAs : (k : Kind) (d f : ℕ) → Values (payload k d f) → Checked Received
-receivedAs slacParmReq d f vs = no 19
-receivedAs slacParmCnf d f vs = fromStation d f (vs .0) parmCnf
-receivedAs startAttenCharInd d f vs = no 19
-receivedAs attenCharInd d f vs = fromStation d f (vs .0) (report (vs .1 .0) (vs .1 .1 .0))
-receivedAs attenCharRsp d f vs = no 19
-receivedAs mnbcSoundInd d f vs = no 19
-receivedAs validateReq d f vs = no 19
-receivedAs validateCnf d f vs = fromStation d f 0 validation
-receivedAs slacMatchReq d f vs = no 19
-receivedAs slacMatchCnf d f vs = fromStation d f (vs .0) (matchCnf (record { 0 = vs .1 .0 }) (record { 0 = vs .1 .1 .0; 1 = vs .1 .1 .1 .0 }))
-receivedAs attenProfileInd d f vs = no 19
+abbrev pub receivedAs : (e : Edition) (k : Kind) (g d f : ℕ) → Values (payload e k g d f) → Checked Received
+receivedAs e slacParmReq g d f vs = no 19
+receivedAs e slacParmCnf g d f vs = fromStation d f (vs .1 .0) parmCnf
+receivedAs e startAttenCharInd g d f vs = no 19
+receivedAs e attenCharInd g d f vs = fromStation d f (vs .0) (report (vs .1 .1 .1 .0) (vs .1 .1 .1 .1 .0))
+receivedAs e attenCharRsp g d f vs = no 19
+receivedAs e mnbcSoundInd g d f vs = no 19
+receivedAs e validateReq g d f vs = no 19
+receivedAs e validateCnf g d f vs = fromStation d f 0 validation
+receivedAs e slacMatchReq g d f vs = no 19
+receivedAs e slacMatchCnf g d f vs = fromStation d f (vs .1 .1 .0) (matchCnf (record { 0 = vs .1 .1 .1 .0 }) (record { 0 = vs .1 .1 .1 .1 .0; 1 = vs .1 .1 .1 .1 .1 .0 }))
+receivedAs e attenProfileInd g d f vs = no 19
 
 -- of what reading gives
 abbrev pub receivedIn : Checked Message → Checked Received
-receivedIn x = andThen x (λ (m : Message). receivedAs (m .kind) (m .dst) (m .src) (m .values))
+receivedIn x = andThen x (λ (m : Message). receivedAs (m .edition) (m .kind) (m .count) (m .dst) (m .src) (m .values))
 
--- reading, 19
+-- reading in the ISO edition, 19
 unfoldable pub received : List ℕ → Checked Received
-received s = receivedIn (readRules s)
+received s = receivedIn (readRules Iso s)
 
 -- what refusal 7 does not concern: "not to us, or from our own address"
 abbrev pub isForUs : Configuration → Received → Bool

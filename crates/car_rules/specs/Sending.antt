@@ -3,8 +3,10 @@ use Prim.Native.Nat.{ℕ, _-_}
 use mathlib.Core.Bool.{cond}
 use mathlib.Core.List.{List, map}
 use lib.Dec.{ltb}
+use Rattle.messages.specs.declared.Edition.the-variants.{Iso}
 use Rattle.messages.specs.declared.StationAddress.{StationAddress}
-use Rattle.messages.specs.Table.{Message, slacParmReq, startAttenCharInd, attenCharRsp, mnbcSoundInd, slacMatchReq, broadcast}
+use Rattle.messages.specs.Table.{Message, slacParmReq, startAttenCharInd, attenCharRsp, mnbcSoundInd, slacMatchReq, isoAttempt, broadcast}
+use Rattle.messages.specs.Reading.{noId}
 use Rattle.messages.specs.Writing as writing
 use Rattle.ends.specs.declared.Indication.{Indication}
 use Rattle.ends.specs.Outcomes.{Done}
@@ -17,13 +19,13 @@ pub data Sending : Type 0 where
   sound : ℕ → Sending
   rsp matchReq : StationAddress → Sending
 
--- as a message of car c: its address, its run and its random value
+-- as a message of car c, in the ISO edition: its address, its run and its random value
 abbrev pub messageFrom : Car → Sending → Message
-messageFrom c parmReq = record { kind = slacParmReq; dst = broadcast; src = c .config .address .0; values = (c .run .0, tt) }
-messageFrom c start = record { kind = startAttenCharInd; dst = broadcast; src = c .config .address .0; values = (c .run .0, tt) }
-messageFrom c (sound k) = record { kind = mnbcSoundInd; dst = broadcast; src = c .config .address .0; values = (k, (c .run .0, (c .random .0, (c .random .1, tt)))) }
-messageFrom c (rsp s) = record { kind = attenCharRsp; dst = s .0; src = c .config .address .0; values = (c .run .0, tt) }
-messageFrom c (matchReq s) = record { kind = slacMatchReq; dst = s .0; src = c .config .address .0; values = (c .run .0, tt) }
+messageFrom c parmReq = record { edition = Iso; kind = slacParmReq; count = 0; dst = broadcast; src = c .config .address .0; values = (c .run .0, tt) }
+messageFrom c start = record { edition = Iso; kind = startAttenCharInd; count = 0; dst = broadcast; src = c .config .address .0; values = (isoAttempt, (c .run .0, tt)) }
+messageFrom c (sound k) = record { edition = Iso; kind = mnbcSoundInd; count = 0; dst = broadcast; src = c .config .address .0; values = (noId, (k, (c .run .0, (c .random .0, (c .random .1, tt))))) }
+messageFrom c (rsp s) = record { edition = Iso; kind = attenCharRsp; count = 0; dst = s .0; src = c .config .address .0; values = (c .run .0, (noId, (noId, tt))) }
+messageFrom c (matchReq s) = record { edition = Iso; kind = slacMatchReq; count = 0; dst = s .0; src = c .config .address .0; values = (noId, (noId, (c .run .0, tt))) }
 
 -- its octets
 unfoldable pub frameFrom : Car → Sending → List ℕ

@@ -1,8 +1,8 @@
 -- `car::frames::apply` meets its contract, by the effect.
 use mathlib.Core.Path.{refl}
-use Rattle.messages.specs.Reading.{groupsOf, readRules}
 use Rattle.ends.specs.declared.Indication.the-variants.{Nothing, KeyGiven}
 use Rattle.car_rules.specs.Frames.{effectRule}
+use Rattle.car.specs.Judge.{groupsIn}
 use Rattle.car.proofs.ComesLaws.{gives-silent, comes-as, comes-gives}
 use Rattle.car.proofs.FrameLaws.{effect-is}
 use borrow.Author.Needs.{needs}
@@ -49,7 +49,7 @@ returns : tie.Need-returns
 unfolding effectRule
 returns c =
     let a = c .before .before .before .before .before .before .args in
-    let g = groupsOf (readRules (a .octets .now)) in
+    let g = groupsIn (a .octets .now) in
     comes-gives (a .car) _ _ (a .out .now) _ (c .silent .result) (effect-is (a .car) (a .station) (a .effect) _ g (c .before .before .enum-told .given .1))
     (gives-silent _ (c .before .in-state .result) _ Nothing (a .out .now) (c .silent .result) refl (c .before .in-state .ensures) (c .silent .ensures))
 
@@ -57,7 +57,7 @@ returns-2 : tie.Need-returns-2
 unfolding effectRule
 returns-2 c =
     let a = c .before .before .before .before .before .args in
-    let g = groupsOf (readRules (a .octets .now)) in
+    let g = groupsIn (a .octets .now) in
     comes-gives (a .car) _ _ (a .out .now) _ (c .silent2 .result) (effect-is (a .car) (a .station) (a .effect) _ g (c .before .enum-told2 .given .1))
     (gives-silent _ (a .car) _ Nothing (a .out .now) (c .silent2 .result) refl refl (c .silent2 .ensures))
 
@@ -67,7 +67,7 @@ same-length c = search needs
 returns-3 : tie.Need-returns-3
 returns-3 c =
     let a = c .before .before .before .before .before .before .before .before .before .args in
-    let g = groupsOf (readRules (a .octets .now)) in
+    let g = groupsIn (a .octets .now) in
     comes-as (a .car) _ _ (a .out .now) _ (c .before .before .gather .result) (effect-is (a .car) (a .station) (a .effect) _ g (c .before .before .before .before .before .effect .given .1)) (c .before .before .gather .ensures)
 
 same-length-2 : tie.Need-same-length-2
@@ -76,14 +76,14 @@ same-length-2 c = search needs
 returns-4 : tie.Need-returns-4
 returns-4 c =
     let a = c .before .before .before .before .before .before .before .before .before .args in
-    let g = groupsOf (readRules (a .octets .now)) in
+    let g = groupsIn (a .octets .now) in
     comes-as (a .car) _ _ (a .out .now) _ (c .before .before .answer-again .result) (effect-is (a .car) (a .station) (a .effect) _ g (c .before .before .before .before .before .effect2 .given .1)) (c .before .before .answer-again .ensures)
 
 returns-5 : tie.Need-returns-5
 unfolding effectRule
 returns-5 c =
     let a = c .before .before .before .before .before .before .before .args in
-    let g = groupsOf (readRules (a .octets .now)) in
+    let g = groupsIn (a .octets .now) in
     comes-gives (a .car) _ _ (a .out .now) _ (c .silent3 .result) (effect-is (a .car) (a .station) (a .effect) _ g (c .before .before .before .effect3 .given .1))
     (gives-silent _ (c .before .in-state2 .result) _ KeyGiven (a .out .now) (c .silent3 .result) refl (c .before .in-state2 .ensures) (c .silent3 .ensures))
 

@@ -1,8 +1,8 @@
 -- `car::frames::gather` meets its contract: by the sounds that the report tells of, whether the station has reported, and the place left.
 use mathlib.Core.Path.{refl, ap, _∙_}
 use Rattle.messages.specs.declared.Refusal.the-variants.{NoSounds, ReportsFull}
-use Rattle.messages.specs.Reading.{groupsOf, readRules}
 use Rattle.car_rules.specs.Choice.{total}
+use Rattle.car.specs.Judge.{groupsIn}
 use Rattle.car.proofs.ComesLaws.{ready-as, comes-gives, comes-refused}
 use Rattle.car.proofs.FrameLaws.{gathers-none, gathers-again, gathers-full, gathers-first}
 use borrow.Author.Needs.{needs}
@@ -60,7 +60,7 @@ returns-4 : tie.Need-returns-4
 returns-4 c =
     let a = c .before .before .before .before .before .before .before .before .before .before .before .before .before .before .args in
     comes-gives (a .car) _ _ (a .out .now) _ (c .before .before .response2 .result)
-    (gathers-first (a .car) (a .station) (a .sounds) (groupsOf (readRules (a .octets .now))) (c .before .before .before .before .before .before .before .before .before .before .if1 .left) _ (c .before .before .before .before .before .before .before .before .before .has-reported .ensures) (c .before .before .before .before .before .before .before .before .if2 .left) (c .before .before .before .before .before .before .before .if3 .left) (c .before .before .before .before .before .total .result) (c .before .before .before .before .keep .result) (c .before .before .before .before .before .total .ensures ∙ ap total (c .before .before .before .before .before .before .groups .ensures)) (c .before .before .before .before .keep .ensures))
+    (gathers-first (a .car) (a .station) (a .sounds) (groupsIn (a .octets .now)) (c .before .before .before .before .before .before .before .before .before .before .if1 .left) _ (c .before .before .before .before .before .before .before .before .before .has-reported .ensures) (c .before .before .before .before .before .before .before .before .if2 .left) (c .before .before .before .before .before .before .before .if3 .left) (c .before .before .before .before .before .total .result) (c .before .before .before .before .keep .result) (c .before .before .before .before .before .total .ensures ∙ ap total (c .before .before .before .before .before .before .groups .ensures)) (c .before .before .before .before .keep .ensures))
     (c .before .before .response2 .ensures)
 
 pub gather-spec : {M : Type 1} → statement M

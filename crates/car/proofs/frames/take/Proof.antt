@@ -1,6 +1,6 @@
 -- `car::frames::take` meets its contract: 8, 11, then what the message does.
 use Rattle.messages.specs.declared.Refusal.the-variants.{NoRecord}
-use Rattle.messages.specs.Reading.{groupsOf, readRules}
+use Rattle.car.specs.Judge.{groupsIn}
 use Rattle.car.proofs.ComesLaws.{comes-as, comes-refused}
 use Rattle.car.proofs.FrameLaws.{state-refuses, state-foreign, state-taken}
 use borrow.Author.Needs.{needs}
@@ -31,7 +31,7 @@ refused-requires-2 c κs = search needs
 returns : tie.Need-returns
 returns c =
     let a = c .before .before .before .before .before .before .before .before .before .before .args in
-    let g = groupsOf (readRules (a .octets .now)) in
+    let g = groupsIn (a .octets .now) in
     λ d. comes-refused (a .car) _ _ (a .out .now) (c .refused .result) (state-refuses (a .car) (a .received) d g _ (c .before .before .before .before .effect-in .ensures g) _ (c .before .before .answer .given .1)) (c .refused .ensures)
 
 same-length : tie.Need-same-length
@@ -40,14 +40,14 @@ same-length c = search needs
 returns-2 : tie.Need-returns-2
 returns-2 c =
     let a = c .before .before .before .before .before .before .before .before .before .before .before .before .before .before .before .before .before .args in
-    let g = groupsOf (readRules (a .octets .now)) in
+    let g = groupsIn (a .octets .now) in
     λ d. comes-as (a .car) _ _ (a .out .now) _ (c .before .before .apply .result)
     (state-taken (a .car) (a .received) d g _ (c .before .before .before .before .before .before .before .before .before .before .before .effect-in .ensures g) _ (c .before .before .before .before .before .before .before .before .before .answer2 .given .1) _ (c .before .before .before .before .before .from-chosen .ensures) (c .before .before .before .before .if1 .taken)) (c .before .before .apply .ensures)
 
 returns-3 : tie.Need-returns-3
 returns-3 c =
     let a = c .before .before .before .before .before .before .before .before .before .before .before .before .before .before .args in
-    let g = groupsOf (readRules (a .octets .now)) in
+    let g = groupsIn (a .octets .now) in
     λ d. comes-refused (a .car) _ NoRecord (a .out .now) (c .refused2 .result)
     (state-foreign (a .car) (a .received) d g _ (c .before .before .before .before .before .before .before .before .effect-in .ensures g) _ (c .before .before .before .before .before .before .answer2 .given .1) _ (c .before .before .from-chosen .ensures) (c .before .if1 .left)) (c .refused2 .ensures)
 

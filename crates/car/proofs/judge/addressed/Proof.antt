@@ -30,19 +30,19 @@ for-us-requires-4 : tie.Need-for-us-requires-4
 for-us-requires-4 c κs = search needs
 
 returns : tie.Need-returns
-returns c = let a = c .before .before .before .before .args in addressed-as (a .config) _ _ (a .message) _ _ (c .for-us .ensures) (c .before .before .message .given .1) (λ g. refl)
+returns c = let a = c .before .before .before .before .args in addressed-as (a .config) _ _ (a .message) _ _ (c .for-us .ensures) (c .before .before .message .given .1) (λ b. refl)
 
 returns-2 : tie.Need-returns-2
-returns-2 c = let a = c .before .before .before .before .args in addressed-as (a .config) _ _ (a .message) _ _ (c .for-us2 .ensures) (c .before .before .message2 .given .1) (λ g. refl)
+returns-2 c = let a = c .before .before .before .before .args in addressed-as (a .config) _ _ (a .message) _ _ (c .for-us2 .ensures) (c .before .before .message2 .given .1) (λ b. refl)
 
 returns-3 : tie.Need-returns-3
-returns-3 c = let a = c .before .before .before .before .args in addressed-as (a .config) _ _ (a .message) _ _ (c .for-us3 .ensures) (c .before .before .message3 .given .1) (λ g. refl)
+returns-3 c = let a = c .before .before .before .before .args in addressed-as (a .config) _ _ (a .message) _ _ (c .for-us3 .ensures) (c .before .before .message3 .given .1) (λ b. refl)
 
 returns-4 : tie.Need-returns-4
-returns-4 c = let a = c .before .before .before .before .args in addressed-as (a .config) _ _ (a .message) _ _ (c .for-us4 .ensures) (c .before .before .message4 .given .1) (λ g. refl)
+returns-4 c = let a = c .before .before .before .before .args in addressed-as (a .config) _ _ (a .message) _ _ (c .for-us4 .ensures) (c .before .before .message4 .given .1) (λ b. refl)
 
 returns-5 : tie.Need-returns-5
-returns-5 c = λ g. only-stations (c .before .args .config) (c .before .args .message) g (c .match .keys5)
+returns-5 c = λ b. only-stations (c .before .args .config) (c .before .args .message) b (c .match .keys5)
 
 pub addressed-spec : {M : Type 1} → statement M
 addressed-spec =

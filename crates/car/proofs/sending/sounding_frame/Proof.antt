@@ -1,6 +1,5 @@
 -- `car::sending::sounding_frame` meets its contract: the message is the one that the rules name.
 use lib.ListN.{length}
-use Rattle.messages.specs.Reading.{noGroups}
 use Rattle.ends.specs.declared.Indication.the-variants.{Nothing}
 use Rattle.car_rules.specs.Sending.{soundingFrame}
 use Rattle.ends.proofs.SendLaws.{writable-as}
@@ -20,13 +19,13 @@ sent-requires : tie.Need-sent-requires
 sent-requires c κs =
     let s = c .before .before .before in
     let a = s .args in
-    writable-as _ _ (length (a .out .now)) (c .before .sounding-message .ensures noGroups) (sounding-writable (a .car) (fits s) (a .out .now) (s .pre .0) (a .k) (s .pre .1))
+    writable-as _ _ (length (a .out .now)) (c .before .sounding-message .ensures) (sounding-writable (a .car) (fits s) (a .out .now) (s .pre .0) (a .k) (s .pre .1))
 
 same-length : tie.Need-same-length
 same-length c = search needs
 
 returns : tie.Need-returns
-returns c = let a = c .before .before .before .before .before .before .args in sent-as (a .car) _ (soundingFrame (a .k)) Nothing (a .out .now) _ (c .before .before .sent .result) (c .before .before .before .before .sounding-message .ensures noGroups) (c .before .before .sent .ensures)
+returns c = let a = c .before .before .before .before .before .before .args in sent-as (a .car) _ (soundingFrame (a .k)) Nothing (a .out .now) _ (c .before .before .sent .result) (c .before .before .before .before .sounding-message .ensures) (c .before .before .sent .ensures)
 
 pub sounding-frame-spec : {M : Type 1} → statement M
 sounding-frame-spec =
