@@ -29,44 +29,44 @@ use Rattle.rules.proofs.ReceivedLaws.{ReadAs, read-as}
 
 -- what a frame's request must meet, where it is not refused before a record is looked at
 abbrev pub Meets : (Request → Type 0) → Configuration → Call → Type 0
-Meets F o (frame s room) = OnYes (λ (y : Received). F (y .request)) (admitted o room (received s))
+Meets F o (frame s room) = OnYes (λ (y : Received). F (y .request)) (admitted o room (received (o .edition) s))
 Meets F o (tick t room) = Unit {0}
 Meets F o (pilot p t) = Unit {0}
 Meets F o terminate = Unit {0}
 Meets F o linkUp = Unit {0}
 
-module _ (P : List Record → Type 0) (F : Request → Type 0)
+module _ (P : List Record → Type 0) (F : Request → Type 0) (o : Shared)
     (puts : (c : CarAddress) → isUnicast (c .0) ≡ true → (m : RecordMessage) → F (forRecord m) → (a : ℕ) (exempt : Bool) (rs : List Record) → P rs
-    → OnYes (λ (x : Change). P (put c (x .place) (x .kept) rs)) (changeRule c m a (freePlaces rs) (firstResult exempt rs) (mine c rs)))
+    → OnYes (λ (x : Change). P (put c (x .place) (x .kept) rs)) (changeRule (o .config .edition) c m a (freePlaces rs) (firstResult exempt rs) (mine c rs)))
     (ticks : (b : Bool) (e : ℕ) (rs : List Record) → P rs → P (map (tickRecord b e) rs))
     (turns : (w : Turn) (rs : List Record) → P rs → P (map (toggledRecord w) rs))
     (frees : (rs : List Record) → P rs → P (map freed rs)) where
   abbrev Keeps : Done → Type 0
   Keeps d = P (d .after .records)
 
-  of-change : (o : Configuration) (st : State) (rs : List Record) (c : CarAddress) (w : Checked Change) → OnYes (λ (x : Change). P (put c (x .place) (x .kept) rs)) w
-      → OnYes Keeps (andThen w (λ (x : Change). yes (changed o st rs c x)))
-  of-change o st rs c (no n) h = tt
-  of-change o st rs c (yes x) h = h
+  of-change : (st : State) (rs : List Record) (c : CarAddress) (w : Checked Change) → OnYes (λ (x : Change). P (put c (x .place) (x .kept) rs)) w
+      → OnYes Keeps (andThen w (λ (x : Change). yes (changed (o .config) st rs c x)))
+  of-change st rs c (no n) h = tt
+  of-change st rs c (yes x) h = h
 
-  of-match : (o : Configuration) (st : State) (rs : List Record) (c : CarAddress) (run : RunId) (w : Checked (Unit {0})) → P rs
-      → OnYes Keeps (andThen w (λ (x : Unit {0}). yes (confirmed o st (map freed rs) c run)))
-  of-match o st rs c run (no n) h = tt
-  of-match o st rs c run (yes x) h = frees rs h
+  of-match : (st : State) (rs : List Record) (c : CarAddress) (run : RunId) (a b : List ℕ) (w : Checked (Unit {0})) → P rs
+      → OnYes Keeps (andThen w (λ (x : Unit {0}). yes (confirmed (o .config) st (map freed rs) c run a b)))
+  of-match st rs c run a b (no n) h = tt
+  of-match st rs c run a b (yes x) h = frees rs h
 
-  of-state : (o : Configuration) (st : State) (rs : List Record) (c : CarAddress) (m : Request) → isUnicast (c .0) ≡ true → F m → P rs → OnYes Keeps (stateRule o st rs c m)
+  of-state : (st : State) (rs : List Record) (c : CarAddress) (m : Request) → isUnicast (c .0) ≡ true → F m → P rs → OnYes Keeps (stateRule (o .config) st rs c m)
   unfolding stateRule
-  of-state o Unmatched rs c m u f h = tt
-  of-state o (Matching a) rs c (forRecord m) u f h = of-change o _ rs c (changeRule c m a (freePlaces rs) (firstResult (o .exempt) rs) (mine c rs)) (puts c u m f a (o .exempt) rs h)
-  of-state o (Matching a) rs c (matchReq run) u f h = of-match o _ rs c run (matchRule run (mine c rs)) h
-  of-state o (Joining l d k) rs c (forRecord m) u f h = tt
-  of-state o (Joining l d k) rs c (matchReq run) u f h = on-check Keeps (sameCar c d && sameRun run k) 11 _ (λ e. h)
-  of-state o Matched rs c m u f h = tt
+  of-state Unmatched rs c m u f h = tt
+  of-state (Matching a) rs c (forRecord m) u f h = of-change _ rs c (changeRule (o .config .edition) c m a (freePlaces rs) (firstResult (o .config .exempt) rs) (mine c rs)) (puts c u m f a (o .config .exempt) rs h)
+  of-state (Matching t) rs c (matchReq run a b) u f h = of-match _ rs c run a b (matchRule run (mine c rs)) h
+  of-state (Joining l d k) rs c (forRecord m) u f h = tt
+  of-state (Joining l d k) rs c (matchReq run a b) u f h = on-check Keeps (sameCar c d && sameRun run k) 11 _ (λ e. h)
+  of-state Matched rs c m u f h = tt
 
-  of-frame : (o : Configuration) (i : Inner) (s : List ℕ) (w : Checked Received) → OnYes (ReadAs (readRules s)) w → OnYes (λ (y : Received). F (y .request)) w → P (i .records)
-      → OnYes Keeps (frameRule o i w)
-  of-frame o i s (no n) t f h = tt
-  of-frame o i s (yes y) t f h = of-state o (i .state) (i .records) (y .car) (y .request) (t .unicast) f h
+  of-frame : (i : Inner) (s : List ℕ) (w : Checked Received) → OnYes (ReadAs (readRules (o .config .edition) s)) w → OnYes (λ (y : Received). F (y .request)) w → P (i .records)
+      → OnYes Keeps (frameRule (o .config) i w)
+  of-frame i s (no n) t f h = tt
+  of-frame i s (yes y) t f h = of-state (i .state) (i .records) (y .car) (y .request) (t .unicast) f h
 
   of-admission : (a : ℕ) (b : Bool) (rs : List Record) (fs : List (List ℕ)) → P rs → Keeps (admissionDone a b rs fs)
   unfolding admissionDone
@@ -79,16 +79,16 @@ module _ (P : List Record → Type 0) (F : Request → Type 0)
   of-joining true l c run rs h = h
   of-joining false l c run rs h = h
 
-  of-tick : (o : Configuration) (b : Bool) (e : ℕ) (st : State) (rs : List Record) → P rs → Keeps (tickDone o b e st rs)
+  of-tick : (b : Bool) (e : ℕ) (st : State) (rs : List Record) → P rs → Keeps (tickDone (o .config) b e st rs)
   unfolding tickDone
-  of-tick o b e Unmatched rs h = h
-  of-tick o b e (Matching a) rs h = of-admission (a - e) (noneHeld (map (tickRecord b e) rs)) (map (tickRecord b e) rs) (allFrames o b e rs) (ticks b e rs h)
-  of-tick o b e (Joining l c run) rs h = of-joining (leb l e) (l - e) c run rs h
-  of-tick o b e Matched rs h = h
+  of-tick b e Unmatched rs h = h
+  of-tick b e (Matching a) rs h = of-admission (a - e) (noneHeld (map (tickRecord b e) rs)) (map (tickRecord b e) rs) (allFrames (o .config) b e rs) (ticks b e rs h)
+  of-tick b e (Joining l c run) rs h = of-joining (leb l e) (l - e) c run rs h
+  of-tick b e Matched rs h = h
 
-  of-elapsed : (o : Configuration) (b : Bool) (i : Inner) (w : Checked ℕ) → P (i .records) → OnYes Keeps (andThen w (λ (e : ℕ). yes (tickDone o b e (i .state) (i .records))))
-  of-elapsed o b i (no n) h = tt
-  of-elapsed o b i (yes e) h = of-tick o b e (i .state) (i .records) h
+  of-elapsed : (b : Bool) (i : Inner) (w : Checked ℕ) → P (i .records) → OnYes Keeps (andThen w (λ (e : ℕ). yes (tickDone (o .config) b e (i .state) (i .records))))
+  of-elapsed b i (no n) h = tt
+  of-elapsed b i (yes e) h = of-tick b e (i .state) (i .records) h
 
   of-pilot : (b p : Bool) (w : Turn) (i : Inner) → P (i .records) → Keeps (pilotDone b p w i)
   unfolding pilotDone
@@ -104,23 +104,23 @@ module _ (P : List Record → Type 0) (F : Request → Type 0)
   of-link (Joining l c run) rs h = h
   of-link Matched rs h = tt
 
-  of-rule : (o : Shared) (i : Inner) (x : Call) → Meets F (o .config) x → P (i .records) → OnYes Keeps (rule o i x)
+  of-rule : (i : Inner) (x : Call) → Meets F (o .config) x → P (i .records) → OnYes Keeps (rule o i x)
   unfolding rule
-  of-rule o i (frame s room) f h = of-frame (o .config) i s (admitted (o .config) room (received s)) (read-as (o .config) room s) f h
-  of-rule o i (tick t room) f h = of-elapsed (o .config) (isB (o .pilot)) i (tickElapsed o t room) h
-  of-rule o i (pilot p t) f h = on-check Keeps (o .config .good) 16 (yes (pilotDone (plugged (o .pilot)) (plugged p) (turn (o .pilot) p) i)) (λ g. of-pilot (plugged (o .pilot)) (plugged p) (turn (o .pilot) p) i h)
-  of-rule o i terminate f h = on-check Keeps (o .config .good) 16 (yes (ended i)) (λ g. frees (i .records) h)
-  of-rule o i linkUp f h = on-check Keeps (o .config .good) 16 (linkRule (i .state) (i .records)) (λ g. of-link (i .state) (i .records) h)
+  of-rule i (frame s room) f h = of-frame i s (admitted (o .config) room (received (o .config .edition) s)) (read-as (o .config .edition) (o .config) room s) f h
+  of-rule i (tick t room) f h = of-elapsed (isB (o .pilot)) i (tickElapsed o t room) h
+  of-rule i (pilot p t) f h = on-check Keeps (o .config .good) 16 (yes (pilotDone (plugged (o .pilot)) (plugged p) (turn (o .pilot) p) i)) (λ g. of-pilot (plugged (o .pilot)) (plugged p) (turn (o .pilot) p) i h)
+  of-rule i terminate f h = on-check Keeps (o .config .good) 16 (yes (ended i)) (λ g. frees (i .records) h)
+  of-rule i linkUp f h = on-check Keeps (o .config .good) 16 (linkRule (i .state) (i .records)) (λ g. of-link (i .state) (i .records) h)
 
   of-next : (i : Inner) (w : Checked Done) → P (i .records) → OnYes Keeps w → P (next i w .records)
   of-next i (no n) h k = h
   of-next i (yes d) h k = k
 
-  pub always : (o : Shared) (i : Inner) (x : Call) → Meets F (o .config) x → P (i .records) → P (next i (rule o i x) .records)
-  always o i x f h = of-next i (rule o i x) h (of-rule o i x f h)
+  pub always : (i : Inner) (x : Call) → Meets F (o .config) x → P (i .records) → P (next i (rule o i x) .records)
+  always i x f h = of-next i (rule o i x) h (of-rule i x f h)
 
 -- only a frame has a request
-pub meets-frame : (F : Request → Type 0) (o : Configuration) (x : Call) → ((s : List ℕ) (room : ℕ) → x ≡ frame s room → OnYes (λ (y : Received). F (y .request)) (admitted o room (received s))) → Meets F o x
+pub meets-frame : (F : Request → Type 0) (o : Configuration) (x : Call) → ((s : List ℕ) (room : ℕ) → x ≡ frame s room → OnYes (λ (y : Received). F (y .request)) (admitted o room (received (o .edition) s))) → Meets F o x
 meets-frame F o (frame s room) h = h s room refl
 meets-frame F o (tick t room) h = tt
 meets-frame F o (pilot p t) h = tt
@@ -134,7 +134,7 @@ module _ (F : Request → Type 0) (f : (m : Request) → F m) where
   every-yes (yes y) = f (y .request)
 
   pub meets-every : (o : Configuration) (x : Call) → Meets F o x
-  meets-every o x = meets-frame F o x (λ s room e. every-yes (admitted o room (received s)))
+  meets-every o x = meets-frame F o x (λ s room e. every-yes (admitted o room (received (o .edition) s)))
 
 abbrev pub AnyRequest : Request → Type 0
 AnyRequest m = Unit {0}

@@ -21,7 +21,9 @@ pub mod Taken
 pub mod PartTwo
 pub mod Demand3Holds
 pub mod SoundLaws
+pub mod TryLaws
 pub mod InvariantKept
+pub mod EditionLaws
 pub mod AnswerLaws
 pub mod Refusals
 pub mod SpreadLaws

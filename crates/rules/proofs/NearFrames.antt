@@ -70,26 +70,26 @@ module _ (o : Configuration) (c : CarAddress) (a : ℕ) (rs rs′ : List Record)
   unfolding stateRule
   own-record m t v =
       let x : ℕ = firstResult (o .exempt) rs in
-      let w : Checked Change = changeRule c m a (freePlaces rs) x (mine c rs) in
-      let r : OnYes (λ (x : Change). Ready (x .place) (freePlaces rs) (mine c rs)) w = change-ready c m a (freePlaces rs) x (mine c rs) in
-      let e : w ≡ changeRule c m a (freePlaces rs′) (firstResult (o .exempt) rs′) (mine c rs) =
-      change-same c m a (freePlaces rs) (freePlaces rs′) x (firstResult (o .exempt) rs′) (mine c rs)
+      let w : Checked Change = changeRule (o .edition) c m a (freePlaces rs) x (mine c rs) in
+      let r : OnYes (λ (x : Change). Ready (x .place) (freePlaces rs) (mine c rs)) w = change-ready (o .edition) c m a (freePlaces rs) x (mine c rs) in
+      let e : w ≡ changeRule (o .edition) c m a (freePlaces rs′) (firstResult (o .exempt) rs′) (mine c rs) =
+      change-same (o .edition) c m a (freePlaces rs) (freePlaces rs′) x (firstResult (o .exempt) rs′) (mine c rs)
       (ap (λ q. isAsk m && q) (sym (ten-change o _ rs c w)) ∙ t) (on-takes c rs rs′ h w r) (same-answer m w v) in
       rw (← h .own, ← e) (own-changed _ w r)
 
-  own-matched : (run : RunId) (w : Checked (Unit {0})) → accepted (outcomeOf (andThen w (λ (x : Unit {0}). yes (confirmed o (Joining joiningTime c run) (map freed rs) c run)))) ≡ false
-      → BothGet c first second (andThen w (λ (x : Unit {0}). yes (confirmed o (Joining joiningTime c run) (map freed rs) c run)))
-      (andThen w (λ (x : Unit {0}). yes (confirmed o (Joining joiningTime c run) (map freed rs′) c run)))
+  own-matched : (run : RunId) (x y : List ℕ) (w : Checked (Unit {0})) → accepted (outcomeOf (andThen w (λ (v : Unit {0}). yes (confirmed o (Joining joiningTime c run) (map freed rs) c run x y)))) ≡ false
+      → BothGet c first second (andThen w (λ (v : Unit {0}). yes (confirmed o (Joining joiningTime c run) (map freed rs) c run x y)))
+      (andThen w (λ (v : Unit {0}). yes (confirmed o (Joining joiningTime c run) (map freed rs′) c run x y)))
   unfolding accepted
-  own-matched run (no n) t = stays c first second n n near-here
-  own-matched run (yes x) t = clash true refl t
+  own-matched run x y (no n) t = stays c first second n n near-here
+  own-matched run x y (yes v) t = clash true refl t
 
 -- with no record of the car and admission closed, the second station Unmatched
 late-state : (o : Configuration) (c : CarAddress) (m : Request) (rs : List Record) (a : ℕ) → a ≡ 0 → mine c rs ≡ [] → (n : ℕ) × (stateRule o (Matching a) rs c m ≡ no n)
 unfolding stateRule
-late-state o c (forRecord m) rs zero z e = let r = change-closed c m (freePlaces rs) (firstResult (o .exempt) rs) in (r .0, rw (e, r .1))
+late-state o c (forRecord m) rs zero z e = let r = change-closed (o .edition) c m (freePlaces rs) (firstResult (o .exempt) rs) in (r .0, rw (e, r .1))
 late-state o c (forRecord m) rs (suc a) z e = absurd (omega arith)
-late-state o c (matchReq run) rs a z e = (11, rw (e, match-none run))
+late-state o c (matchReq run x y) rs a z e = (11, rw (e, match-none run))
 
 own-state : (o : Configuration) (c : CarAddress) (m : Request) (st st′ : State) (rs rs′ : List Record) → Alone c rs rs′ → Ahead (mine c rs′) st st′
     → isMatch m && accepted (outcomeOf (stateRule o st rs c m)) ≡ false → asksIn m && isTen (outcomeOf (stateRule o st rs c m)) ≡ false
@@ -97,7 +97,7 @@ own-state : (o : Configuration) (c : CarAddress) (m : Request) (st st′ : State
     → BothGet c (record { state = st; records = rs }) (record { state = st′; records = rs′ }) (stateRule o st rs c m) (stateRule o st′ rs′ c m)
 unfolding stateRule
 own-state o c (forRecord m) st st′ rs rs′ h (both {a}) p t v = own-record o c a rs rs′ h m t v
-own-state o c (matchReq run) st st′ rs rs′ h (both {a}) p t v = rw (← h .own) (own-matched o c a rs rs′ h run (matchRule run (mine c rs)) p)
+own-state o c (matchReq run x y) st st′ rs rs′ h (both {a}) p t v = rw (← h .own) (own-matched o c a rs rs′ h run x y (matchRule run (mine c rs)) p)
 own-state o c m st st′ rs rs′ h (late {a} z e) p t v =
     let r = late-state o c m rs a z (h .own ∙ e) in
     rw (r .1) (stays c _ _ (r .0) 8 (record { alone = h; states = late z e }))
@@ -130,24 +130,24 @@ module _ (o : Configuration) (c d : CarAddress) (u : isUnicast (d .0) ≡ true) 
     sent = sent-other o c d (x .replies) u f;
   }
 
-  other-matched : (st : State) (rs : List Record) (run : RunId) (w : Checked (Unit {0})) → accepted (outcomeOf (andThen w (λ (x : Unit {0}). yes (confirmed o st rs d run)))) ≡ false
-      → FirstGets c i j (andThen w (λ (x : Unit {0}). yes (confirmed o st rs d run)))
+  other-matched : (st : State) (rs : List Record) (run : RunId) (x y : List ℕ) (w : Checked (Unit {0})) → accepted (outcomeOf (andThen w (λ (v : Unit {0}). yes (confirmed o st rs d run x y)))) ≡ false
+      → FirstGets c i j (andThen w (λ (v : Unit {0}). yes (confirmed o st rs d run x y)))
   unfolding accepted
-  other-matched st rs run (no n) t = passes c i j n h
-  other-matched st rs run (yes x) t = clash true refl t
+  other-matched st rs run x y (no n) t = passes c i j n h
+  other-matched st rs run x y (yes v) t = clash true refl t
 
-  other-again : (st : State) (rs : List Record) (run : RunId) (b : Bool) → accepted (outcomeOf (check b 11 (yes (confirmed o st rs d run)))) ≡ false → FirstGets c i j (check b 11 (yes (confirmed o st rs d run)))
+  other-again : (st : State) (rs : List Record) (run : RunId) (x y : List ℕ) (b : Bool) → accepted (outcomeOf (check b 11 (yes (confirmed o st rs d run x y)))) ≡ false → FirstGets c i j (check b 11 (yes (confirmed o st rs d run x y)))
   unfolding accepted
-  other-again st rs run false t = passes c i j 11 h
-  other-again st rs run true t = clash true refl t
+  other-again st rs run x y false t = passes c i j 11 h
+  other-again st rs run x y true t = clash true refl t
 
   other-state : (m : Request) (st : State) → i .state ≡ st → isMatch m && accepted (outcomeOf (stateRule o st (i .records) d m)) ≡ false → FirstGets c i j (stateRule o st (i .records) d m)
   unfolding stateRule
   other-state m Unmatched e t = passes c i j 8 h
-  other-state (forRecord m) (Matching a) e t = other-changed _ e (changeRule d m a (freePlaces (i .records)) (firstResult (o .exempt) (i .records)) (mine d (i .records)))
-  other-state (matchReq run) (Matching a) e t = other-matched (Joining joiningTime d run) (map freed (i .records)) run (matchRule run (mine d (i .records))) t
+  other-state (forRecord m) (Matching a) e t = other-changed _ e (changeRule (o .edition) d m a (freePlaces (i .records)) (firstResult (o .exempt) (i .records)) (mine d (i .records)))
+  other-state (matchReq run x y) (Matching a) e t = other-matched (Joining joiningTime d run) (map freed (i .records)) run x y (matchRule run (mine d (i .records))) t
   other-state (forRecord m) (Joining l b k) e t = passes c i j 8 h
-  other-state (matchReq run) (Joining l b k) e t = other-again (Joining l b k) (i .records) run (sameCar d b && sameRun run k) t
+  other-state (matchReq run x y) (Joining l b k) e t = other-again (Joining l b k) (i .records) run x y (sameCar d b && sameRun run k) t
   other-state m Matched e t = passes c i j 8 h
 
   pub other-frame : (m : Request) → isMatch m && accepted (outcomeOf (stateRule o (i .state) (i .records) d m)) ≡ false → FirstGets c i j (stateRule o (i .state) (i .records) d m)
@@ -159,21 +159,21 @@ pub record Ends (c : CarAddress) (i j : Inner) (a b : Checked Done) : Type 0 whe
   pub own : mine c (next i a .records) ≡ mine c (next j b .records)
   pub sent : repliesIn c (outcomeOf a) ≡ repliesIn c (outcomeOf b)
 
-end-matched : (o : Configuration) (c : CarAddress) (i j : Inner) (rs rs′ : List Record) (run : RunId) (w : Checked (Unit {0}))
-    → accepted (outcomeOf (andThen w (λ (x : Unit {0}). yes (confirmed o (Joining joiningTime c run) (map freed rs) c run)))) ≡ true
-    → Ends c i j (andThen w (λ (x : Unit {0}). yes (confirmed o (Joining joiningTime c run) (map freed rs) c run)))
-    (andThen w (λ (x : Unit {0}). yes (confirmed o (Joining joiningTime c run) (map freed rs′) c run)))
+end-matched : (o : Configuration) (c : CarAddress) (i j : Inner) (rs rs′ : List Record) (run : RunId) (x y : List ℕ) (w : Checked (Unit {0}))
+    → accepted (outcomeOf (andThen w (λ (v : Unit {0}). yes (confirmed o (Joining joiningTime c run) (map freed rs) c run x y)))) ≡ true
+    → Ends c i j (andThen w (λ (v : Unit {0}). yes (confirmed o (Joining joiningTime c run) (map freed rs) c run x y)))
+    (andThen w (λ (v : Unit {0}). yes (confirmed o (Joining joiningTime c run) (map freed rs′) c run x y)))
 unfolding accepted
-end-matched o c i j rs rs′ run (no n) t = clash true refl (sym t)
-end-matched o c i j rs rs′ run (yes x) t = record { own = mine-freed c rs ∙ sym (mine-freed c rs′); sent = refl }
+end-matched o c i j rs rs′ run x y (no n) t = clash true refl (sym t)
+end-matched o c i j rs rs′ run x y (yes v) t = record { own = mine-freed c rs ∙ sym (mine-freed c rs′); sent = refl }
 
 end-state : (o : Configuration) (c : CarAddress) (m : Request) (i j : Inner) (st st′ : State) (rs rs′ : List Record) → Alone c rs rs′ → Ahead (mine c rs′) st st′
     → isMatch m && accepted (outcomeOf (stateRule o st rs c m)) ≡ true → Ends c i j (stateRule o st rs c m) (stateRule o st′ rs′ c m)
 unfolding stateRule accepted
 end-state o c (forRecord m) i j st st′ rs rs′ h g t = clash true refl (sym t)
-end-state o c (matchReq run) i j st st′ rs rs′ h (both {a}) t = rw (← h .own) (end-matched o c i j rs rs′ run (matchRule run (mine c rs)) t)
-end-state o c (matchReq run) i j st st′ rs rs′ h (late {a} z e) t = clash true refl (sym (rw (h .own ∙ e, match-none run) at t))
-end-state o c (matchReq run) i j st st′ rs rs′ h (out e) t = clash true refl (sym t)
+end-state o c (matchReq run x y) i j st st′ rs rs′ h (both {a}) t = rw (← h .own) (end-matched o c i j rs rs′ run x y (matchRule run (mine c rs)) t)
+end-state o c (matchReq run x y) i j st st′ rs rs′ h (late {a} z e) t = clash true refl (sym (rw (h .own ∙ e, match-none run) at t))
+end-state o c (matchReq run x y) i j st st′ rs rs′ h (out e) t = clash true refl (sym t)
 
 pub end-frame : (o : Configuration) (c : CarAddress) (m : Request) (i j : Inner) → Near c i j → isMatch m && accepted (outcomeOf (stateRule o (i .state) (i .records) c m)) ≡ true
     → Ends c i j (stateRule o (i .state) (i .records) c m) (stateRule o (j .state) (j .records) c m)

@@ -7,6 +7,7 @@ use native.Mathlib.Omega.{arith}
 use lib.Dec.{eqb, leb}
 use borrow.Author.Tests.{eqb-true}
 use Rattle.messages.specs.declared.CarAddress.{CarAddress}
+use Rattle.messages.specs.declared.Edition.{Edition}
 use Rattle.messages.specs.declared.RunId.{RunId}
 use Rattle.messages.specs.Reading.{Checked, no, yes, check}
 use Rattle.rules.specs.declared.Phase.{Phase}
@@ -89,62 +90,62 @@ busy-put c k freePlace rs w = rw (w .0) (omega (arith, busy-insert (owned c k) r
 
 -- ---- a frame at its car's record
 
-module _ (room : ℕ) (r : Record) where
+module _ (e : Edition) (room : ℕ) (r : Record) where
   -- the record is ready or counting only if it was, or if there is room for one more
   abbrev Light : Record → Type 0
   Light n = load (n .phase) ≤ load (r .phase) + room
 
-  start-light : OnYes (OfKept Light) (startRule r (r .phase))
+  start-light : (k : ℕ) → OnYes (OfKept Light) (startRule e k r (r .phase))
   unfolding inPhase validates
-  start-light = on-start Light r (r .phase) (λ t e. omega arith) (λ t e. omega arith)
+  start-light k = on-start (OfKept Light) e r k (r .phase) (λ t q. omega arith) (λ t q. omega arith)
 
-  sound-light : (k : ℕ) → OnYes (OfKept Light) (soundRule k r (r .phase))
+  sound-light : (k : ℕ) → OnYes (OfKept Light) (soundRule e k r (r .phase))
   unfolding withHeard
-  sound-light k = on-sound Light r k (r .phase) (λ a b. omega arith)
+  sound-light k = on-sound (OfKept Light) e r k (r .phase) (λ a b. omega arith)
 
-  profile-light : (vs : List ℕ) → OnYes (OfKept Light) (profileRule vs r (r .phase))
+  profile-light : (g : ℕ) (vs : List ℕ) → OnYes (OfKept Light) (profileRule e g vs r (r .phase))
   unfolding counted inPhase validates
-  profile-light vs = on-profile Light r vs (r .phase) (λ t e a. omega arith) (λ t e a. omega arith)
+  profile-light g vs = on-profile (OfKept Light) e r g vs (r .phase) (λ t q k a. omega arith) (λ t q k a. omega arith)
 
   rsp-light : OnYes (OfKept Light) (rspRule r (r .phase))
   unfolding inPhase validates
-  rsp-light = on-rsp Light r (r .phase) (λ t n e. omega arith)
+  rsp-light = on-rsp (OfKept Light) e r (r .phase) (λ t n q. omega arith)
 
   first-light : (result : ℕ) → (result ≡ readyResult → 0 < room) → OnYes (OfKept Light) (firstRule result r (r .phase))
   unfolding answered inPhase validates
-  first-light result h = on-first Light r result (r .phase) (λ t e. on-cond Light (eqb result readyResult) _ r (λ a. omega (arith, h (eqb-true result readyResult a))) (λ a. omega arith))
+  first-light result h = on-first (OfKept Light) e r result (r .phase) (λ t q. on-cond Light (eqb result readyResult) _ r (λ a. omega (arith, h (eqb-true result readyResult a))) (λ a. omega arith))
 
   second-light : (timer : ℕ) → OnYes (OfKept Light) (secondRule timer r (r .phase))
   unfolding inPhase validates
-  second-light timer = on-second Light r timer (r .phase) (λ t e. let q : load (r .phase) ≡ 1 = ap load e in omega arith)
+  second-light timer = on-second (OfKept Light) e r timer (r .phase) (λ t q. let n : load (r .phase) ≡ 1 = ap load q in omega arith)
 
 -- and at its car's own records
-module _ (room : ℕ) (own : List Record) where
+module _ (e : Edition) (room : ℕ) (own : List Record) where
   abbrev LightOwn : Record → Type 0
   LightOwn k = load (k .phase) ≤ loadOf own + room
 
-  light-first : (r : Record) (rs : List Record) (w : Checked Kept) → own ≡ r ∷ rs → OnYes (OfKept (Light room r)) w → OnYes (OfKept LightOwn) w
-  light-first r rs w e h = subst (λ (l : List Record). OnYes (λ (k : Kept). load (k .kept .phase) ≤ loadOf l + room) w) (sym e) h
+  light-first : (r : Record) (rs : List Record) (w : Checked Kept) → own ≡ r ∷ rs → OnYes (OfKept (Light e room r)) w → OnYes (OfKept LightOwn) w
+  light-first r rs w q h = subst (λ (l : List Record). OnYes (λ (k : Kept). load (k .kept .phase) ≤ loadOf l + room) w) (sym q) h
 
-  light-own : (f : Record → Checked Kept) → ((r : Record) → OnYes (OfKept (Light room r)) (f r)) → OnYes (OfChange LightOwn) (putBack (atOwn own f))
-  light-own f h = on-back (λ (k : Record) (ts : List Reply). LightOwn k) (atOwn own f) (on-own (OfKept LightOwn) own f (λ r rs e. light-first r rs (f r) e (h r)))
+  light-own : (f : Record → Checked Kept) → ((r : Record) → OnYes (OfKept (Light e room r)) (f r)) → OnYes (OfChange LightOwn) (putBack (atOwn own f))
+  light-own f h = on-back (λ (k : Record) (ts : List Reply). LightOwn k) (atOwn own f) (on-own (OfKept LightOwn) own f (λ r rs q. light-first r rs (f r) q (h r)))
 
-  light-run : (run : RunId) (f : Record → Checked Kept) → ((r : Record) → OnYes (OfKept (Light room r)) (f r)) → OnYes (OfChange LightOwn) (putBack (atRun run own f))
-  light-run run f h = light-own (λ (r : Record). check (sameRun run (r .run)) 11 (f r)) (λ r. on-check (OfKept (Light room r)) (sameRun run (r .run)) 11 (f r) (λ s. h r))
+  light-run : (run : RunId) (f : Record → Checked Kept) → ((r : Record) → OnYes (OfKept (Light e room r)) (f r)) → OnYes (OfChange LightOwn) (putBack (atRun run own f))
+  light-run run f h = light-own (λ (r : Record). check (sameRun run (r .run)) 11 (f r)) (λ r. on-check (OfKept (Light e room r)) (sameRun run (r .run)) 11 (f r) (λ s. h r))
 
-  light-fresh : (c : CarAddress) (run : RunId) → LightOwn (fresh c run)
+  light-fresh : (later : Bool) (c : CarAddress) (run : RunId) → LightOwn (fresh later c run)
   unfolding fresh validates
-  light-fresh c run = omega arith
+  light-fresh later c run = omega arith
 
-  light-change : (c : CarAddress) (m : RecordMessage) (a free result : ℕ) → (isValidate m ≡ true → result ≡ readyResult → 0 < room) → OnYes (OfChange LightOwn) (changeRule c m a free result own)
+  light-change : (c : CarAddress) (m : RecordMessage) (a free result : ℕ) → (isValidate m ≡ true → result ≡ readyResult → 0 < room) → OnYes (OfChange LightOwn) (changeRule e c m a free result own)
   unfolding changeRule
-  light-change c (parmReq run) a free result h = on-parm LightOwn c run a free result own (light-fresh c run)
-  light-change c (start run) a free result h = light-run run (λ (r : Record). startRule r (r .phase)) (start-light room)
-  light-change c (sound run k) a free result h = light-run run (λ (r : Record). soundRule k r (r .phase)) (λ r. sound-light room r k)
-  light-change c (profile vs) a free result h = light-own (λ (r : Record). profileRule vs r (r .phase)) (λ r. profile-light room r vs)
-  light-change c (rsp run) a free result h = light-run run (λ (r : Record). rspRule r (r .phase)) (rsp-light room)
-  light-change c validateFirst a free result h = light-own (λ (r : Record). firstRule result r (r .phase)) (λ r. first-light room r result (h refl))
-  light-change c (validateSecond timer) a free result h = light-own (λ (r : Record). secondRule timer r (r .phase)) (λ r. second-light room r timer)
+  light-change c (parmReq run) a free result h = on-parm LightOwn e c run a free result own (λ p. light-fresh _ c run)
+  light-change c (start run k) a free result h = light-run run (λ (r : Record). startRule e k r (r .phase)) (λ r. start-light e room r k)
+  light-change c (sound run k) a free result h = light-run run (λ (r : Record). soundRule e k r (r .phase)) (λ r. sound-light e room r k)
+  light-change c (profile g vs) a free result h = light-own (λ (r : Record). profileRule e g vs r (r .phase)) (λ r. profile-light e room r g vs)
+  light-change c (rsp run) a free result h = light-run run (λ (r : Record). rspRule r (r .phase)) (rsp-light e room)
+  light-change c validateFirst a free result h = light-own (λ (r : Record). firstRule result r (r .phase)) (λ r. first-light e room r result (h refl))
+  light-change c (validateSecond timer) a free result h = light-own (λ (r : Record). secondRule timer r (r .phase)) (λ r. second-light e room r timer)
 
 -- ---- each record changed
 
@@ -225,19 +226,19 @@ unfolding firstResult
 ready-none true rs e = absurd (omega arith)
 ready-none false rs e = split (anyValidates rs) (λ g. absurd (let z : 3 ≡ 1 = rw g at e in omega arith)) (λ g. busy-none rs g)
 
-few-put : (n : ℕ) (c : CarAddress) (rs : List Record) → Few n rs → (w : Checked Change) → OnYes (λ (x : Change). places.Ready (x .place) (freePlaces rs) (mine c rs)) w → OnYes (OfChange (LightOwn (n - busy rs) (mine c rs))) w
+few-put : (e : Edition) (n : ℕ) (c : CarAddress) (rs : List Record) → Few n rs → (w : Checked Change) → OnYes (λ (x : Change). places.Ready (x .place) (freePlaces rs) (mine c rs)) w → OnYes (OfChange (LightOwn e (n - busy rs) (mine c rs))) w
     → OnYes (λ (x : Change). Few n (put c (x .place) (x .kept) rs)) w
-few-put n c rs h (no k) r l = tt
-few-put n c rs h (yes x) r l = omega (arith, busy-put c (x .kept) (x .place) rs r)
+few-put e n c rs h (no k) r l = tt
+few-put e n c rs h (yes x) r l = omega (arith, busy-put c (x .kept) (x .place) rs r)
 
-few-change : (n : ℕ) (c : CarAddress) (m : RecordMessage) → Allows n (forRecord m) → (a : ℕ) (exempt : Bool) (rs : List Record) → Few n rs
-    → OnYes (λ (x : Change). Few n (put c (x .place) (x .kept) rs)) (changeRule c m a (freePlaces rs) (firstResult exempt rs) (mine c rs))
-few-change n c m f a exempt rs h = few-put n c rs h (changeRule c m a (freePlaces rs) (firstResult exempt rs) (mine c rs)) (change-ready c m a (freePlaces rs) (firstResult exempt rs) (mine c rs))
-    (light-change (n - busy rs) (mine c rs) c m a (freePlaces rs) (firstResult exempt rs) (λ v e. omega (arith, f v, ready-none exempt rs e)))
+few-change : (e : Edition) (n : ℕ) (c : CarAddress) (m : RecordMessage) → Allows n (forRecord m) → (a : ℕ) (exempt : Bool) (rs : List Record) → Few n rs
+    → OnYes (λ (x : Change). Few n (put c (x .place) (x .kept) rs)) (changeRule e c m a (freePlaces rs) (firstResult exempt rs) (mine c rs))
+few-change e n c m f a exempt rs h = few-put e n c rs h (changeRule e c m a (freePlaces rs) (firstResult exempt rs) (mine c rs)) (change-ready e c m a (freePlaces rs) (firstResult exempt rs) (mine c rs))
+    (light-change e (n - busy rs) (mine c rs) c m a (freePlaces rs) (firstResult exempt rs) (λ v q. omega (arith, f v, ready-none exempt rs q)))
 
 pub few-next : (n : ℕ) (o : Shared) (i : Inner) (x : Call) → Meets (Allows n) (o .config) x → Few n (i .records) → Few n (next i (rule o i x) .records)
-few-next n = always (Few n) (Allows n)
-    (λ c u. few-change n c)
+few-next n o = always (Few n) (Allows n) o
+    (λ c u. few-change (o .config .edition) n c)
     (λ b e rs h. omega (arith, busy-map (tickRecord b e) (tick-weight b e) rs))
     (λ w rs h. omega (arith, busy-map (toggledRecord w) (turn-weight w) rs))
     (λ rs h. omega (arith, free-busy (map freed rs) (none-freed rs)))

@@ -109,11 +109,11 @@ module _ (st : State) (rs qs : List Record) (h : Places rs qs) where
   agree-changed o c (no n) r = refuse n
   agree-changed o c (yes x) r = record { moved = record { places = places-put rs qs h c (x .place) (x .kept) r; states = refl }; gave = refl }
 
-  agree-matched : (o : Configuration) (c : CarAddress) (run : RunId) (w : Checked (Unit {0}))
-      → Agrees first second (andThen w (λ (x : Unit {0}). yes (confirmed o (Joining joiningTime c run) (map freed rs) c run)))
-      (andThen w (λ (x : Unit {0}). yes (confirmed o (Joining joiningTime c run) (map freed qs) c run)))
-  agree-matched o c run (no n) = refuse n
-  agree-matched o c run (yes x) = record { moved = record { places = places-freed rs qs h; states = refl }; gave = refl }
+  agree-matched : (o : Configuration) (c : CarAddress) (run : RunId) (x y : List ℕ) (w : Checked (Unit {0}))
+      → Agrees first second (andThen w (λ (v : Unit {0}). yes (confirmed o (Joining joiningTime c run) (map freed rs) c run x y)))
+      (andThen w (λ (v : Unit {0}). yes (confirmed o (Joining joiningTime c run) (map freed qs) c run x y)))
+  agree-matched o c run x y (no n) = refuse n
+  agree-matched o c run x y (yes v) = record { moved = record { places = places-freed rs qs h; states = refl }; gave = refl }
 
 module _ (o : Configuration) (rs qs : List Record) (h : Places rs qs) where
   agree-state : (st : State) (c : CarAddress) (m : Request) → Agrees (first st rs qs h) (second st rs qs h) (stateRule o st rs c m) (stateRule o st qs c m)
@@ -121,12 +121,12 @@ module _ (o : Configuration) (rs qs : List Record) (h : Places rs qs) where
   agree-state Unmatched c m = refuse Unmatched rs qs h 8
   agree-state (Matching a) c (forRecord m) =
       rw (← h .own c, ← places-free rs qs h, ← same-result (o .exempt) rs qs (h .own))
-      (agree-changed (Matching a) rs qs h o c (changeRule c m a (freePlaces rs) (firstResult (o .exempt) rs) (mine c rs)) (change-ready c m a (freePlaces rs) (firstResult (o .exempt) rs) (mine c rs)))
-  agree-state (Matching a) c (matchReq run) = rw (← h .own c) (agree-matched (Matching a) rs qs h o c run (matchRule run (mine c rs)))
+      (agree-changed (Matching a) rs qs h o c (changeRule (o .edition) c m a (freePlaces rs) (firstResult (o .exempt) rs) (mine c rs)) (change-ready (o .edition) c m a (freePlaces rs) (firstResult (o .exempt) rs) (mine c rs)))
+  agree-state (Matching a) c (matchReq run x y) = rw (← h .own c) (agree-matched (Matching a) rs qs h o c run x y (matchRule run (mine c rs)))
   agree-state (Joining l d k) c (forRecord m) = refuse (Joining l d k) rs qs h 8
-  agree-state (Joining l d k) c (matchReq run) =
+  agree-state (Joining l d k) c (matchReq run x y) =
       check-both (Agrees (first (Joining l d k) rs qs h) (second (Joining l d k) rs qs h)) (sameCar c d && sameRun run k) 11
-      (yes (confirmed o (Joining l d k) rs c run)) (yes (confirmed o (Joining l d k) qs c run)) (refuse (Joining l d k) rs qs h 11)
+      (yes (confirmed o (Joining l d k) rs c run x y)) (yes (confirmed o (Joining l d k) qs c run x y)) (refuse (Joining l d k) rs qs h 11)
       (λ e. record { moved = here (Joining l d k) rs qs h; gave = refl })
   agree-state Matched c m = refuse Matched rs qs h 8
 
@@ -182,7 +182,7 @@ tick-elapsed t room o b st rs qs h (yes e) = tick-state t room o b e (first st r
 
 follows-in : (o : Shared) (st : State) (rs qs : List Record) (h : Places rs qs) (x : Call) → Follows x (first st rs qs h) (second st rs qs h) (rule o (first st rs qs h) x) (rule o (second st rs qs h) x)
 unfolding rule
-follows-in o st rs qs h (frame s room) = let a = agree-frame (o .config) rs qs h st (admitted (o .config) room (received s)) in record { moved = a .moved; gave = a .gave }
+follows-in o st rs qs h (frame s room) = let a = agree-frame (o .config) rs qs h st (admitted (o .config) room (received (o .config .edition) s)) in record { moved = a .moved; gave = a .gave }
 follows-in o st rs qs h (tick t room) = tick-elapsed t room (o .config) (isB (o .pilot)) st rs qs h (tickElapsed o t room)
 follows-in o st rs qs h (pilot p t) =
     let a = check-both (Agrees (first st rs qs h) (second st rs qs h)) (o .config .good) 16 _ _ (refuse st rs qs h 16) (λ g. agree-pilot (o .config) rs qs h st (plugged (o .pilot)) (plugged p) (turn (o .pilot) p)) in

@@ -7,6 +7,7 @@ use native.Mathlib.Omega.{arith}
 use lib.Dec.{leb}
 use lib.ListN.{replicate}
 use Rattle.messages.specs.declared.CarAddress.{CarAddress}
+use Rattle.messages.specs.declared.Edition.{Edition}
 use Rattle.messages.specs.declared.ModemAddress.{ModemAddress}
 use Rattle.messages.specs.declared.Nid.{Nid}
 use Rattle.messages.specs.declared.Nmk.{Nmk}
@@ -53,17 +54,17 @@ held-change : (o : Configuration) (a : ℕ) (rs : List Record) (c : CarAddress) 
 held-change o a rs c (no n) = tt
 held-change o a rs c (yes x) = tt
 
-held-match : (o : Configuration) (l : ℕ) (rs : List Record) (c : CarAddress) (run : RunId) (w : Checked (Unit {0})) → OnYes Held (andThen w (λ (x : Unit {0}). yes (confirmed o (Joining l c run) (map freed rs) c run)))
-held-match o l rs c run (no n) = tt
-held-match o l rs c run (yes x) = none-freed rs
+held-match : (o : Configuration) (l : ℕ) (rs : List Record) (c : CarAddress) (run : RunId) (x y : List ℕ) (w : Checked (Unit {0})) → OnYes Held (andThen w (λ (u : Unit {0}). yes (confirmed o (Joining l c run) (map freed rs) c run x y)))
+held-match o l rs c run x y (no n) = tt
+held-match o l rs c run x y (yes u) = none-freed rs
 
 held-state : (o : Configuration) (st : State) (rs : List Record) (c : CarAddress) (m : Request) → HeldIn st rs → OnYes Held (stateRule o st rs c m)
 unfolding stateRule
 held-state o Unmatched rs c m h = tt
-held-state o (Matching a) rs c (forRecord m) h = held-change o a rs c (changeRule c m a (freePlaces rs) (firstResult (o .exempt) rs) (mine c rs))
-held-state o (Matching a) rs c (matchReq run) h = held-match o _ rs c run (matchRule run (mine c rs))
+held-state o (Matching a) rs c (forRecord m) h = held-change o a rs c (changeRule (o .edition) c m a (freePlaces rs) (firstResult (o .exempt) rs) (mine c rs))
+held-state o (Matching a) rs c (matchReq run x y) h = held-match o _ rs c run x y (matchRule run (mine c rs))
 held-state o (Joining l d k) rs c (forRecord m) h = tt
-held-state o (Joining l d k) rs c (matchReq run) h = on-check Held (sameCar c d && sameRun run k) 11 (yes (confirmed o (Joining l d k) rs c run)) (λ e. h)
+held-state o (Joining l d k) rs c (matchReq run x y) h = on-check Held (sameCar c d && sameRun run k) 11 (yes (confirmed o (Joining l d k) rs c run x y)) (λ e. h)
 held-state o Matched rs c m h = tt
 
 held-frame : (o : Configuration) (i : Inner) (w : Checked Received) → HeldIn (i .state) (i .records) → OnYes Held (frameRule o i w)
@@ -115,7 +116,7 @@ held-link Matched rs h = tt
 
 held-rule : (o : Shared) (i : Inner) (x : Call) → HeldIn (i .state) (i .records) → OnYes Held (rule o i x)
 unfolding rule
-held-rule o i (frame s room) h = held-frame (o .config) i (admitted (o .config) room (received s)) h
+held-rule o i (frame s room) h = held-frame (o .config) i (admitted (o .config) room (received (o .config .edition) s)) h
 held-rule o i (tick t room) h = held-elapsed (o .config) (isB (o .pilot)) i (tickElapsed o t room) h
 held-rule o i (pilot p t) h = on-check Held (o .config .good) 16 (yes (pilotDone (plugged (o .pilot)) (plugged p) (turn (o .pilot) p) i)) (λ g. held-pilot (plugged (o .pilot)) (plugged p) (turn (o .pilot) p) i h)
 held-rule o i terminate h = on-check Held (o .config .good) 16 (yes (ended i)) (λ g. none-freed (i .records))
@@ -148,7 +149,7 @@ unmatched-pilot true false false w q t o rs e p = refl
 -- every call but a plug-in leaves it so
 unmatched-rule : (o : Shared) (rs : List Record) (x : Call) → plugged (sharedStep o x .pilot) ≡ false → OnYes Stays (rule o (record { state = Unmatched; records = rs }) x)
 unfolding rule linkRule sharedStep
-unmatched-rule o rs (frame s room) p = unmatched-frame (o .config) rs (admitted (o .config) room (received s))
+unmatched-rule o rs (frame s room) p = unmatched-frame (o .config) rs (admitted (o .config) room (received (o .config .edition) s))
 unmatched-rule o rs (tick t room) p = unmatched-elapsed (o .config) (isB (o .pilot)) rs (tickElapsed o t room)
 unmatched-rule o rs (pilot q t) p = unmatched-pilot (o .config .good) (plugged (o .pilot)) (plugged q) (turn (o .pilot) q) q t o rs refl p
 unmatched-rule o rs terminate p = on-check Stays (o .config .good) 16 (yes (ended (record { state = Unmatched; records = rs }))) (λ g. refl)
@@ -203,12 +204,12 @@ step-reaches s x h w = record {
   ordered = all-ordered (step s x .records) w;
 }
 
-configured-reachable : (a : StationAddress) (m : ModemAddress) (nid : Nid) (nmk : Nmk) (exempt : Bool) → Reachable (configured a m nid nmk exempt)
+configured-reachable : (a : StationAddress) (m : ModemAddress) (nid : Nid) (nmk : Nmk) (exempt : Bool) (e : Edition) → Reachable (configured a m nid nmk exempt e)
 unfolding configured
-configured-reachable a m nid nmk exempt =
+configured-reachable a m nid nmk exempt e =
     let rs = replicate recordCount freeRecord in
     let h : noneHeld rs ≡ true = mine-none _ (λ c. mine-free c recordCount) in
-    record { one = λ c. one-record a m nid nmk exempt [] c; held = h; validating = omega (arith, free-busy rs h); unplugged = λ p. refl; bad = λ g. refl; ordered = all-ordered rs (wide-free recordCount) }
+    record { one = λ c. one-record a m nid nmk exempt e [] c; held = h; validating = omega (arith, free-busy rs h); unplugged = λ p. refl; bad = λ g. refl; ordered = all-ordered rs (wide-free recordCount) }
 
 -- reachable, and what the order of each group's values rests on
 abbrev Reaches : Station → Type 0
@@ -217,9 +218,9 @@ Reaches s = Reachable s × All Wide (s .records)
 reaches-next : (s : Station) (x : Call) → Reaches s → Reaches (step s x)
 reaches-next s x h = let w = step-wide s x (h .1) in (step-reaches s x (h .0) w, w)
 
-configured-reaches : (a : StationAddress) (m : ModemAddress) (nid : Nid) (nmk : Nmk) (exempt : Bool) → Reaches (configured a m nid nmk exempt)
+configured-reaches : (a : StationAddress) (m : ModemAddress) (nid : Nid) (nmk : Nmk) (exempt : Bool) (e : Edition) → Reaches (configured a m nid nmk exempt e)
 unfolding configured
-configured-reaches a m nid nmk exempt = (configured-reachable a m nid nmk exempt, wide-free recordCount)
+configured-reaches a m nid nmk exempt e = (configured-reachable a m nid nmk exempt e, wide-free recordCount)
 
-pub reachable : (address : StationAddress) (modem : ModemAddress) (nid : Nid) (nmk : Nmk) (exempt : Bool) (xs : List Call) → Reachable (after (configured address modem nid nmk exempt) xs)
-reachable a m nid nmk exempt xs = after-all Reaches reaches-next (configured a m nid nmk exempt) xs (configured-reaches a m nid nmk exempt) .0
+pub reachable : (address : StationAddress) (modem : ModemAddress) (nid : Nid) (nmk : Nmk) (exempt : Bool) (e : Edition) (xs : List Call) → Reachable (after (configured address modem nid nmk exempt e) xs)
+reachable a m nid nmk exempt e xs = after-all Reaches reaches-next (configured a m nid nmk exempt e) xs (configured-reaches a m nid nmk exempt e) .0

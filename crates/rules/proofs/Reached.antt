@@ -80,12 +80,12 @@ unicast-put c u rs h (no n) = tt
 unicast-put c u rs h (yes x) = all-put Unicast c (x .place) (x .kept) (unicast-owned c (x .kept) u) rs h
 
 pub unicast-next : (o : Shared) (i : Inner) (x : Call) → All Unicast (i .records) → All Unicast (next i (rule o i x) .records)
-unicast-next o i x = always (All Unicast) AnyRequest
-    (λ c u m f a x rs h. unicast-put c u rs h (changeRule c m a (freePlaces rs) (firstResult x rs) (mine c rs)))
+unicast-next o i x = always (All Unicast) AnyRequest o
+    (λ c u m f a x rs h. unicast-put c u rs h (changeRule (o .config .edition) c m a (freePlaces rs) (firstResult x rs) (mine c rs)))
     (λ b e rs h. all-map Unicast (tickRecord b e) (unicast-tick b e) rs h)
     (λ w rs h. all-map Unicast (toggledRecord w) (unicast-turn w) rs h)
     (λ rs h. all-map Unicast freed (λ r g. unicast-freed r) rs h)
-    o i x (meets-any (o .config) x)
+    i x (meets-any (o .config) x)
 
 pub unicast-after : (s : Station) (xs : List Call) → All Unicast (s .records) → All Unicast (after s xs .records)
 unfolding step
@@ -98,12 +98,12 @@ length-of n c rs h (no k) = tt
 length-of n c rs h (yes x) = length-put c (x .kept) (x .place) rs ∙ h
 
 length-next : (n : ℕ) (o : Shared) (i : Inner) (x : Call) → length (i .records) ≡ n → length (next i (rule o i x) .records) ≡ n
-length-next n o i x = always (λ (rs : List Record). length rs ≡ n) AnyRequest
-    (λ c u m f a x rs h. length-of n c rs h (changeRule c m a (freePlaces rs) (firstResult x rs) (mine c rs)))
+length-next n o i x = always (λ (rs : List Record). length rs ≡ n) AnyRequest o
+    (λ c u m f a x rs h. length-of n c rs h (changeRule (o .config .edition) c m a (freePlaces rs) (firstResult x rs) (mine c rs)))
     (λ b e rs h. length-map rs (tickRecord b e) ∙ h)
     (λ w rs h. length-map rs (toggledRecord w) ∙ h)
     (λ rs h. length-map rs freed ∙ h)
-    o i x (meets-any (o .config) x)
+    i x (meets-any (o .config) x)
 
 pub length-after : (s : Station) (xs : List Call) → length (after s xs .records) ≡ length (s .records)
 unfolding step
@@ -133,12 +133,12 @@ one-map : (g : Record → Record) → Keeping g → (rs : List Record) → OneEa
 one-map g k rs h c = rw (mine-map g k c rs) (omega (arith, h c, only-shorter c (map g (mine c rs)), length-map (mine c rs) g))
 
 pub one-next : (o : Shared) (i : Inner) (x : Call) → OneEach (i .records) → OneEach (next i (rule o i x) .records)
-one-next o i x = always OneEach AnyRequest
-    (λ c u m f a x rs h. one-put c rs h (changeRule c m a (freePlaces rs) (firstResult x rs) (mine c rs)) (change-ready c m a (freePlaces rs) (firstResult x rs) (mine c rs)))
+one-next o i x = always OneEach AnyRequest o
+    (λ c u m f a x rs h. one-put c rs h (changeRule (o .config .edition) c m a (freePlaces rs) (firstResult x rs) (mine c rs)) (change-ready (o .config .edition) c m a (freePlaces rs) (firstResult x rs) (mine c rs)))
     (λ b e. one-map (tickRecord b e) (tick-keeping b e))
     (λ w. one-map (toggledRecord w) (turn-keeping w))
     (λ rs h c. rw (mine-freed c rs) (omega arith))
-    o i x (meets-any (o .config) x)
+    i x (meets-any (o .config) x)
 
 pub one-after : (s : Station) (xs : List Call) → OneEach (s .records) → OneEach (after s xs .records)
 unfolding step

@@ -1,28 +1,29 @@
 -- The group values of a frame of octets are octets, and its timer fits one: the one law here that looks into reading.
 use Prim.Native.Nat.{ℕ, zero, suc, _+_, _^_, _<_}
-use mathlib.Core.List.{List, [], _∷_}
+use mathlib.Core.List.{List, [], _∷_, _++_}
 use native.Mathlib.Omega.{arith}
 use lib.ListN.{take, drop, replicate}
 use Rattle.octets.specs.Octets.{part, Octets}
-use Rattle.messages.specs.Layout.{Field, is, number, low, octets, reserved, Values, size, holds, read}
+use Rattle.messages.specs.Layout.{Field, is, number, such, low, free, octets, reserved, Values, size, holds, filled, read}
 use Rattle.messages.specs.Table.{Kind, slacParmReq, slacParmCnf, startAttenCharInd, attenCharInd, attenCharRsp, mnbcSoundInd, validateReq, validateCnf, slacMatchReq, slacMatchCnf, attenProfileInd, groupCount, head, payload, Message, addressed}
-use Rattle.messages.specs.Reading.{Checked, no, yes, noGroups, groupsIn, kindRules, payloadRules, frameRules, readRules}
+use Rattle.messages.specs.declared.Edition.{Edition}
+use Rattle.messages.specs.Reading.{Checked, no, yes, Form, noGroups, besideIn, kindRules, payloadRules, frameRules, readRules}
 use Rattle.octets.proofs.OctetLaws.{octets-drop, low-lt}
 use Rattle.ends.proofs.Logic.{OnYes, on-check}
 
 -- the timer of VALIDATE.REQ, and 0 of any other message
-abbrev pub timerIn : (k : Kind) (d f : ℕ) → Values (payload k d f) → ℕ
-timerIn slacParmReq d f vs = 0
-timerIn slacParmCnf d f vs = 0
-timerIn startAttenCharInd d f vs = 0
-timerIn attenCharInd d f vs = 0
-timerIn attenCharRsp d f vs = 0
-timerIn mnbcSoundInd d f vs = 0
-timerIn validateReq d f vs = vs .0
-timerIn validateCnf d f vs = 0
-timerIn slacMatchReq d f vs = 0
-timerIn slacMatchCnf d f vs = 0
-timerIn attenProfileInd d f vs = 0
+abbrev pub timerIn : (e : Edition) (k : Kind) (g d f : ℕ) → Values (payload e k g d f) → ℕ
+timerIn e slacParmReq g d f vs = 0
+timerIn e slacParmCnf g d f vs = 0
+timerIn e startAttenCharInd g d f vs = 0
+timerIn e attenCharInd g d f vs = 0
+timerIn e attenCharRsp g d f vs = 0
+timerIn e mnbcSoundInd g d f vs = 0
+timerIn e validateReq g d f vs = vs .0
+timerIn e validateCnf g d f vs = 0
+timerIn e slacMatchReq g d f vs = 0
+timerIn e slacMatchCnf g d f vs = 0
+timerIn e attenProfileInd g d f vs = 0
 
 take-octets : (n : ℕ) (s : List ℕ) → Octets s → Octets (take n s)
 take-octets zero s o i = omega arith
@@ -38,6 +39,14 @@ zero-octets zero i = omega arith
 zero-octets (suc n) zero = omega arith
 zero-octets (suc n) (suc i) = zero-octets n i
 
+both-octets : (a b : List ℕ) → Octets a → Octets b → Octets (a ++ b)
+both-octets [] b o q i = q i
+both-octets (x ∷ xs) b o q zero = o zero
+both-octets (x ∷ xs) b o q (suc i) = both-octets xs b (λ j. o (suc j)) q i
+
+filled-octets : (s : List ℕ) (at n z : ℕ) → Octets s → Octets (filled s at n z)
+filled-octets s at n z o = both-octets (part s at n) (replicate z 0) (part-octets s at n o) (zero-octets z)
+
 -- zeros in the place of group values
 pub none-octets : Octets noGroups
 unfolding noGroups
@@ -48,47 +57,51 @@ abbrev OctetValues : (fs : List Field) → Values fs → Type 0
 OctetValues [] vs = Unit {0}
 OctetValues (is n v ∷ fs) vs = OctetValues fs vs
 OctetValues (number n ∷ fs) vs = OctetValues fs (vs .1)
+OctetValues (such n p ∷ fs) vs = OctetValues fs (vs .1)
 OctetValues (low n b ∷ fs) vs = (vs .0 < 256 ^ n) × OctetValues fs (vs .1)
-OctetValues (octets n ∷ fs) vs = Octets (vs .0) × OctetValues fs (vs .1)
+OctetValues (free n b ∷ fs) vs = OctetValues fs (vs .1)
+OctetValues (octets n z ∷ fs) vs = Octets (vs .0) × OctetValues fs (vs .1)
 OctetValues (reserved n ∷ fs) vs = OctetValues fs vs
 
 values-octets : (fs : List Field) (at : ℕ) (s : List ℕ) → Octets s → OctetValues fs (read at fs s)
 values-octets [] at s o = tt
 values-octets (is n v ∷ fs) at s o = values-octets fs (at + n) s o
 values-octets (number n ∷ fs) at s o = values-octets fs (at + n) s o
+values-octets (such n p ∷ fs) at s o = values-octets fs (at + n) s o
 values-octets (low n b ∷ fs) at s o = (low-lt s at n o, values-octets fs (at + n) s o)
-values-octets (octets n ∷ fs) at s o = (part-octets s at n o, values-octets fs (at + n) s o)
+values-octets (free n b ∷ fs) at s o = values-octets fs (at + n) s o
+values-octets (octets n z ∷ fs) at s o = (filled-octets s at n z o, values-octets fs (at + n) s o)
 values-octets (reserved n ∷ fs) at s o = values-octets fs (at + n) s o
 
 -- what reading octets gives: group values that are octets, and a timer that fits one
 abbrev pub OctetMessage : Message → Type 0
-OctetMessage m = Octets (groupsIn (m .kind) (m .dst) (m .src) (m .values)) × (timerIn (m .kind) (m .dst) (m .src) (m .values) < 256)
+OctetMessage m = Octets (besideIn (m .edition) (m .kind) (m .count) (m .dst) (m .src) (m .values) .groups) × (timerIn (m .edition) (m .kind) (m .count) (m .dst) (m .src) (m .values) < 256)
 
-abbrev OctetsOf : (k : Kind) (d f : ℕ) → Values (payload k d f) → Type 0
-OctetsOf k d f vs = Octets (groupsIn k d f vs) × (timerIn k d f vs < 256)
+abbrev OctetsOf : (e : Edition) (k : Kind) (g d f : ℕ) → Values (payload e k g d f) → Type 0
+OctetsOf e k g d f vs = Octets (besideIn e k g d f vs .groups) × (timerIn e k g d f vs < 256)
 
-of-kind : (k : Kind) (d f : ℕ) (vs : Values (payload k d f)) → OctetValues (payload k d f) vs → OctetsOf k d f vs
-of-kind slacParmReq d f vs o = (none-octets, omega arith)
-of-kind slacParmCnf d f vs o = (none-octets, omega arith)
-of-kind startAttenCharInd d f vs o = (none-octets, omega arith)
-of-kind attenCharInd d f vs o = (o .0, omega arith)
-of-kind attenCharRsp d f vs o = (none-octets, omega arith)
-of-kind mnbcSoundInd d f vs o = (none-octets, omega arith)
-of-kind validateReq d f vs o = (none-octets, o .0)
-of-kind validateCnf d f vs o = (none-octets, omega arith)
-of-kind slacMatchReq d f vs o = (none-octets, omega arith)
-of-kind slacMatchCnf d f vs o = (none-octets, omega arith)
-of-kind attenProfileInd d f vs o = (o .0, omega arith)
+of-kind : (e : Edition) (k : Kind) (g d f : ℕ) (vs : Values (payload e k g d f)) → OctetValues (payload e k g d f) vs → OctetsOf e k g d f vs
+of-kind e slacParmReq g d f vs o = (none-octets, omega arith)
+of-kind e slacParmCnf g d f vs o = (none-octets, omega arith)
+of-kind e startAttenCharInd g d f vs o = (none-octets, omega arith)
+of-kind e attenCharInd g d f vs o = (o .0, omega arith)
+of-kind e attenCharRsp g d f vs o = (none-octets, omega arith)
+of-kind e mnbcSoundInd g d f vs o = (none-octets, omega arith)
+of-kind e validateReq g d f vs o = (none-octets, o .0)
+of-kind e validateCnf g d f vs o = (none-octets, omega arith)
+of-kind e slacMatchReq g d f vs o = (none-octets, omega arith)
+of-kind e slacMatchCnf g d f vs o = (none-octets, omega arith)
+of-kind e attenProfileInd g d f vs o = (o .0, omega arith)
 
-of-payload : (k : Kind) (d f : ℕ) (p : List ℕ) → Octets p → OnYes OctetMessage (payloadRules k d f p)
-of-payload k d f p o =
-    on-check OctetMessage (addressed k d f (read 0 (payload k d f) p)) 5 _ (λ a. on-check OctetMessage (holds 0 (payload k d f) p) 6 _ (λ b. of-kind k d f (read 0 (payload k d f) p) (values-octets (payload k d f) 0 p o)))
+of-payload : (e : Edition) (k : Kind) (g d f : ℕ) (p : List ℕ) → Octets p → OnYes OctetMessage (payloadRules e k g d f p)
+of-payload e k g d f p o =
+    on-check OctetMessage (addressed e k g d f (read 0 (payload e k g d f) p)) 5 _ (λ a. on-check OctetMessage (holds 0 (payload e k g d f) p) 6 _ (λ b. of-kind e k g d f (read 0 (payload e k g d f) p) (values-octets (payload e k g d f) 0 p o)))
 
-of-frame : (x : Checked Kind) (s : List ℕ) → Octets s → OnYes OctetMessage (frameRules x s)
-of-frame (no n) s o = tt
-of-frame (yes k) s o = of-payload k (read 0 head s .0) (read 0 head s .1 .0) (drop (size head) s) (octets-drop (size head) s o)
+of-frame : (e : Edition) (x : Checked Form) (s : List ℕ) → Octets s → OnYes OctetMessage (frameRules e x s)
+of-frame e (no n) s o = tt
+of-frame e (yes t) s o = of-payload e (t .kind) (t .count) (read 0 head s .0) (read 0 head s .1 .0) (drop (size head) s) (octets-drop (size head) s o)
 
 -- of a frame of octets
-pub read-octets : (s : List ℕ) → Octets s → OnYes OctetMessage (readRules s)
+pub read-octets : (e : Edition) (s : List ℕ) → Octets s → OnYes OctetMessage (readRules e s)
 unfolding readRules
-read-octets s o = of-frame (kindRules s) s o
+read-octets e s o = of-frame e (kindRules e s) s o

@@ -1,22 +1,27 @@
 -- Laws of what a station receives: the car is the one that the frame names, and a unicast one; PARM.REQ, VALIDATE.REQ and MATCH.REQ are what they read as.
-use Prim.Native.Nat.{ℕ, _<_}
+use Prim.Native.Nat.{ℕ, zero, suc, _+_, _-_, _<_, _≤_}
 use mathlib.Core.Path.{_≡_, refl, sym, _∙_, ap, subst}
 use mathlib.Core.Bool.{Bool, true, false, cond}
-use mathlib.Core.List.{List}
+use mathlib.Core.List.{List, [], _∷_, _++_}
 use mathlib.Core.Option.{some}
 use native.Mathlib.Omega.{arith}
 use lib.Dec.{eqb, leb}
-use lib.ListN.{length, length-take, length-drop}
-use Rattle.octets.specs.Octets.{Octets}
-use Rattle.messages.specs.Layout.{Values}
-use Rattle.messages.specs.Table.{Kind, slacParmReq, slacParmCnf, startAttenCharInd, attenCharInd, attenCharRsp, mnbcSoundInd, validateReq, validateCnf, slacMatchReq, slacMatchCnf, attenProfileInd, groupCount, isUnicast, broadcast, payload, Message}
-use Rattle.messages.specs.Reading.{Checked, no, yes, groupsIn, groupsOf, carOf, readRules}
+use lib.ListN.{length, getD, take, drop, replicate, length-append, length-take, length-drop, length-replicate}
+use Rattle.octets.specs.Octets.{value, Octets}
+use Rattle.messages.specs.declared.Edition.{Edition}
+use Rattle.messages.specs.Layout.{Values, size, fits, read}
+use Rattle.messages.specs.Table.{Kind, slacParmReq, slacParmCnf, startAttenCharInd, attenCharInd, attenCharRsp, mnbcSoundInd, validateReq, validateCnf, slacMatchReq, slacMatchCnf, attenProfileInd, groupCount, isCount, countAt, head, isUnicast, broadcast, payload, Message, isCounted}
+use Rattle.messages.specs.Reading.{Checked, no, yes, besideIn, besideOf, carOf, readRules}
 use Rattle.messages.specs.declared.CarAddress.{CarAddress}
-use Rattle.messages.proofs.FrameLaws.{attenProfileInd-groups, groups-room, groups-read}
+use Rattle.octets.proofs.OctetLaws.{octets-drop}
+use Rattle.messages.proofs.FrameLaws.{accepted, groupsFrom, attenProfileInd-groups, count-most, stands-room, stands-read}
+use Rattle.messages.proofs.LayoutLaws.{to-fits, read-fits}
+use Rattle.messages.proofs.TableLaws.{size-payload}
 use Rattle.messages.proofs.NamedCars.{cars-unicast}
 use Rattle.rules.specs.declared.Configuration.{Configuration}
 use Rattle.rules.specs.Constants.{leastOutput}
-use Rattle.rules.specs.Received.{parmReq, start, sound, profile, rsp, validateFirst, validateSecond, Request, forRecord, matchReq, Received, receivedAs, receivedIn, received, isForUs}
+use Rattle.rules.specs.Received.{validateFirst, validateSecond, Request, forRecord, matchReq, Received, receivedAs, receivedIn, received, isForUs}
+use Rattle.rules.specs.FromOctets.{CountedValues, IsId, Holds, OctetRequest}
 use Rattle.rules.specs.Frames.{admitted}
 use Rattle.rules.specs.Demand3.{isRead}
 use Rattle.ends.proofs.Logic.{OnYes, on-check}
@@ -27,15 +32,15 @@ use Rattle.rules.proofs.RuleLaws.{isAsk, isValidate}
 
 abbrev pub isMatch : Request → Bool
 isMatch (forRecord m) = false
-isMatch (matchReq run) = true
+isMatch (matchReq run a b) = true
 
 abbrev pub asksIn : Request → Bool
 asksIn (forRecord m) = isAsk m
-asksIn (matchReq run) = false
+asksIn (matchReq run a b) = false
 
 abbrev pub validatesIn : Request → Bool
 validatesIn (forRecord m) = isValidate m
-validatesIn (matchReq run) = false
+validatesIn (matchReq run a b) = false
 
 -- what was received, and what reading the octets gave
 pub record ReadAs (x : Checked Message) (y : Received) : Type 0 where
@@ -49,34 +54,34 @@ pub record ReadAs (x : Checked Message) (y : Received) : Type 0 where
 abbrev NamesUnicast : Checked Message → Type 0
 NamesUnicast x = (c : CarAddress) → carOf x ≡ some c → isUnicast (c .0) ≡ true
 
-validation-read : (b : Bool) (t d f : ℕ) (vs : Values (payload validateReq d f)) → NamesUnicast (yes (record { kind = validateReq; dst = d; src = f; values = vs }))
-    → ReadAs (yes (record { kind = validateReq; dst = d; src = f; values = vs })) (record { car = record { 0 = f }; dst = d; src = f; request = forRecord (cond b (validateSecond t) validateFirst) })
+validation-read : (e : Edition) (b : Bool) (t g d f : ℕ) (vs : Values (payload e validateReq g d f)) → NamesUnicast (yes (record { edition = e; kind = validateReq; count = g; dst = d; src = f; values = vs }))
+    → ReadAs (yes (record { edition = e; kind = validateReq; count = g; dst = d; src = f; values = vs })) (record { car = record { 0 = f }; dst = d; src = f; request = forRecord (cond b (validateSecond t) validateFirst) })
 unfolding isRead
-validation-read true t d f vs u = record { car = refl; unicast = u _ refl; matching = refl; asking = refl; validating = refl }
-validation-read false t d f vs u = record { car = refl; unicast = u _ refl; matching = refl; asking = refl; validating = refl }
+validation-read e true t g d f vs u = record { car = refl; unicast = u _ refl; matching = refl; asking = refl; validating = refl }
+validation-read e false t g d f vs u = record { car = refl; unicast = u _ refl; matching = refl; asking = refl; validating = refl }
 
-read-as-kind : (k : Kind) (d f : ℕ) (vs : Values (payload k d f)) → NamesUnicast (yes (record { kind = k; dst = d; src = f; values = vs }))
-    → OnYes (ReadAs (yes (record { kind = k; dst = d; src = f; values = vs }))) (receivedAs k d f vs)
+read-as-kind : (e : Edition) (k : Kind) (g d f : ℕ) (vs : Values (payload e k g d f)) → NamesUnicast (yes (record { edition = e; kind = k; count = g; dst = d; src = f; values = vs }))
+    → OnYes (ReadAs (yes (record { edition = e; kind = k; count = g; dst = d; src = f; values = vs }))) (receivedAs e k g d f vs)
 unfolding isRead
-read-as-kind slacParmReq d f vs u = record { car = refl; unicast = u _ refl; matching = refl; asking = refl; validating = refl }
-read-as-kind slacParmCnf d f vs u = tt
-read-as-kind startAttenCharInd d f vs u = record { car = refl; unicast = u _ refl; matching = refl; asking = refl; validating = refl }
-read-as-kind attenCharInd d f vs u = tt
-read-as-kind attenCharRsp d f vs u = record { car = refl; unicast = u _ refl; matching = refl; asking = refl; validating = refl }
-read-as-kind mnbcSoundInd d f vs u = record { car = refl; unicast = u _ refl; matching = refl; asking = refl; validating = refl }
-read-as-kind validateReq d f vs u = validation-read (eqb d broadcast) (vs .0) d f vs u
-read-as-kind validateCnf d f vs u = tt
-read-as-kind slacMatchReq d f vs u = record { car = refl; unicast = u _ refl; matching = refl; asking = refl; validating = refl }
-read-as-kind slacMatchCnf d f vs u = tt
-read-as-kind attenProfileInd d f vs u = record { car = refl; unicast = u _ refl; matching = refl; asking = refl; validating = refl }
+read-as-kind e slacParmReq g d f vs u = record { car = refl; unicast = u _ refl; matching = refl; asking = refl; validating = refl }
+read-as-kind e slacParmCnf g d f vs u = tt
+read-as-kind e startAttenCharInd g d f vs u = record { car = refl; unicast = u _ refl; matching = refl; asking = refl; validating = refl }
+read-as-kind e attenCharInd g d f vs u = tt
+read-as-kind e attenCharRsp g d f vs u = record { car = refl; unicast = u _ refl; matching = refl; asking = refl; validating = refl }
+read-as-kind e mnbcSoundInd g d f vs u = record { car = refl; unicast = u _ refl; matching = refl; asking = refl; validating = refl }
+read-as-kind e validateReq g d f vs u = validation-read e (eqb d broadcast) (vs .0) g d f vs u
+read-as-kind e validateCnf g d f vs u = tt
+read-as-kind e slacMatchReq g d f vs u = record { car = refl; unicast = u _ refl; matching = refl; asking = refl; validating = refl }
+read-as-kind e slacMatchCnf g d f vs u = tt
+read-as-kind e attenProfileInd g d f vs u = record { car = refl; unicast = u _ refl; matching = refl; asking = refl; validating = refl }
 
 read-as-in : (x : Checked Message) → NamesUnicast x → OnYes (ReadAs x) (receivedIn x)
 read-as-in (no n) u = tt
-read-as-in (yes m) u = read-as-kind (m .kind) (m .dst) (m .src) (m .values) u
+read-as-in (yes m) u = read-as-kind (m .edition) (m .kind) (m .count) (m .dst) (m .src) (m .values) u
 
-received-read : (s : List ℕ) → OnYes (ReadAs (readRules s)) (received s)
+received-read : (e : Edition) (s : List ℕ) → OnYes (ReadAs (readRules e s)) (received e s)
 unfolding received
-received-read s = read-as-in (readRules s) (cars-unicast s)
+received-read e s = read-as-in (readRules e s) (cars-unicast e s)
 
 -- what no state and no record refuses is what was received
 admitted-on : (P : Received → Type 0) (o : Configuration) (room : ℕ) (x : Checked Received) → OnYes P x → OnYes P (admitted o room x)
@@ -84,83 +89,131 @@ unfolding admitted
 admitted-on P o room (no n) h = on-check P (o .good) 16 _ (λ g. on-check P (leb leastOutput room) 15 (no n) (λ k. tt))
 admitted-on P o room (yes y) h = on-check P (o .good) 16 _ (λ g. on-check P (leb leastOutput room) 15 _ (λ k. on-check P (isForUs o y) 7 (yes y) (λ l. h)))
 
-pub read-as : (o : Configuration) (room : ℕ) (s : List ℕ) → OnYes (ReadAs (readRules s)) (admitted o room (received s))
-read-as o room s = admitted-on (ReadAs (readRules s)) o room (received s) (received-read s)
+pub read-as : (e : Edition) (o : Configuration) (room : ℕ) (s : List ℕ) → OnYes (ReadAs (readRules e s)) (admitted o room (received e s))
+read-as e o room s = admitted-on (ReadAs (readRules e s)) o room (received e s) (received-read e s)
 
--- ---- what holds of a profile's values and of a timer
+-- ---- what stands behind the counted values
 
-module _ (P : List ℕ → Type 0) (Q : ℕ → Type 0) where
-  abbrev pub ValuesRequest : Request → Type 0
-  ValuesRequest (forRecord (parmReq run)) = Unit {0}
-  ValuesRequest (forRecord (start run)) = Unit {0}
-  ValuesRequest (forRecord (sound run k)) = Unit {0}
-  ValuesRequest (forRecord (profile vs)) = P vs
-  ValuesRequest (forRecord (rsp run)) = Unit {0}
-  ValuesRequest (forRecord validateFirst) = Unit {0}
-  ValuesRequest (forRecord (validateSecond timer)) = Q timer
-  ValuesRequest (matchReq run) = Unit {0}
+pub zeros-at : (n i : ℕ) → getD (replicate {A = ℕ} n 0) i 0 ≡ 0
+zeros-at zero i = refl
+zeros-at (suc n) zero = refl
+zeros-at (suc n) (suc i) = zeros-at n i
 
+past-count : (g z : ℕ) (l : List ℕ) (i : ℕ) → g ≤ i → getD (take g l ++ replicate z 0) i 0 ≡ 0
+past-count zero z l i h = zeros-at z i
+past-count (suc g) z [] i h = zeros-at z i
+past-count (suc g) z (x ∷ l) zero h = absurd (omega arith)
+past-count (suc g) z (x ∷ l) (suc i) h = past-count g z l i (omega arith)
+
+-- ---- what holds of a profile, of a timer and of identifiers
+
+module _ (P : ℕ → List ℕ → Type 0) (Q : ℕ → Type 0) (R : List ℕ → List ℕ → Type 0) where
   abbrev OfReceived : Received → Type 0
-  OfReceived y = ValuesRequest (y .request)
+  OfReceived y = Holds P Q R (y .request)
 
-  abbrev ValuesAs : (k : Kind) (d f : ℕ) → Values (payload k d f) → Type 0
-  ValuesAs k d f vs = (k ≡ attenProfileInd → P (groupsIn k d f vs)) × (k ≡ validateReq → Q (timerIn k d f vs))
+  abbrev ValuesAs : (e : Edition) (k : Kind) (g d f : ℕ) → Values (payload e k g d f) → Type 0
+  ValuesAs e k g d f vs =
+      (k ≡ attenProfileInd → P g (besideIn e k g d f vs .groups))
+      × ((k ≡ validateReq → Q (timerIn e k g d f vs))
+      × (k ≡ slacMatchReq → R (besideIn e k g d f vs .first) (besideIn e k g d f vs .second)))
 
   abbrev ValuesMessage : Message → Type 0
-  ValuesMessage m = ValuesAs (m .kind) (m .dst) (m .src) (m .values)
+  ValuesMessage m = ValuesAs (m .edition) (m .kind) (m .count) (m .dst) (m .src) (m .values)
 
-  values-validation : (b : Bool) (t : ℕ) → Q t → ValuesRequest (forRecord (cond b (validateSecond t) validateFirst))
+  values-validation : (b : Bool) (t : ℕ) → Q t → Holds P Q R (forRecord (cond b (validateSecond t) validateFirst))
   values-validation true t h = h
   values-validation false t h = tt
 
-  values-as : (k : Kind) (d f : ℕ) (vs : Values (payload k d f)) → ValuesAs k d f vs → OnYes OfReceived (receivedAs k d f vs)
-  values-as slacParmReq d f vs h = tt
-  values-as slacParmCnf d f vs h = tt
-  values-as startAttenCharInd d f vs h = tt
-  values-as attenCharInd d f vs h = tt
-  values-as attenCharRsp d f vs h = tt
-  values-as mnbcSoundInd d f vs h = tt
-  values-as validateReq d f vs h = values-validation (eqb d broadcast) (vs .0) (h .1 refl)
-  values-as validateCnf d f vs h = tt
-  values-as slacMatchReq d f vs h = tt
-  values-as slacMatchCnf d f vs h = tt
-  values-as attenProfileInd d f vs h = h .0 refl
+  values-as : (e : Edition) (k : Kind) (g d f : ℕ) (vs : Values (payload e k g d f)) → ValuesAs e k g d f vs → OnYes OfReceived (receivedAs e k g d f vs)
+  values-as e slacParmReq g d f vs h = tt
+  values-as e slacParmCnf g d f vs h = tt
+  values-as e startAttenCharInd g d f vs h = tt
+  values-as e attenCharInd g d f vs h = tt
+  values-as e attenCharRsp g d f vs h = tt
+  values-as e mnbcSoundInd g d f vs h = tt
+  values-as e validateReq g d f vs h = values-validation (eqb d broadcast) (vs .0) (h .1 .0 refl)
+  values-as e validateCnf g d f vs h = tt
+  values-as e slacMatchReq g d f vs h = h .1 .1 refl
+  values-as e slacMatchCnf g d f vs h = tt
+  values-as e attenProfileInd g d f vs h = h .0 refl
 
   values-in : (x : Checked Message) → ((m : Message) → x ≡ yes m → ValuesMessage m) → OnYes OfReceived (receivedIn x)
   values-in (no n) h = tt
-  values-in (yes m) h = values-as (m .kind) (m .dst) (m .src) (m .values) (h m refl)
+  values-in (yes m) h = values-as (m .edition) (m .kind) (m .count) (m .dst) (m .src) (m .values) (h m refl)
 
-  values-received : (s : List ℕ) → ((m : Message) → readRules s ≡ yes m → ValuesMessage m) → OnYes OfReceived (received s)
+  values-received : (e : Edition) (s : List ℕ) → ((m : Message) → readRules e s ≡ yes m → ValuesMessage m) → OnYes OfReceived (received e s)
   unfolding received
-  values-received s h = values-in (readRules s) h
+  values-received e s h = values-in (readRules e s) h
 
-  pub admitted-values : (o : Configuration) (room : ℕ) (s : List ℕ) → ((m : Message) → readRules s ≡ yes m → ValuesMessage m) → OnYes OfReceived (admitted o room (received s))
-  admitted-values o room s h = admitted-on OfReceived o room (received s) (values-received s h)
+  pub admitted-values : (e : Edition) (o : Configuration) (room : ℕ) (s : List ℕ) → ((m : Message) → readRules e s ≡ yes m → ValuesMessage m) → OnYes OfReceived (admitted o room (received e s))
+  admitted-values e o room s h = admitted-on OfReceived o room (received e s) (values-received e s h)
 
--- a profile's values are octets, and a timer fits one
-abbrev pub OctetRequest : Request → Type 0
-OctetRequest m = ValuesRequest Octets (λ (t : ℕ). t < 256) m
+-- ---- of the group values of a frame
+
+module _ (e : Edition) (s : List ℕ) (m : Message) (q : readRules e s ≡ yes m) (k : m .kind ≡ attenProfileInd) where
+  abbrev groupsOf : List ℕ
+  groupsOf = besideIn (m .edition) (m .kind) (m .count) (m .dst) (m .src) (m .values) .groups
+
+  -- they are the counted octets, and zeros behind them
+  groups-are : groupsOf ≡ groupsFrom (m .count) (drop (size head + 8) s)
+  groups-are = sym (stands-read e s m (m .count) refl (sym q) attenProfileInd-groups k ∙ ap (λ (x : Checked Message). besideOf x .groups) q)
+
+  count-right : isCount e (m .count) ≡ true
+  count-right =
+      let a = accepted e s m q in
+      let h : isCounted e (countAt (m .kind)) (m .count) ≡ true = subst (λ (x : Message). isCounted e (countAt (x .kind)) (x .count) ≡ true) (a .same) (a .found .counts) in
+      subst (λ (j : Kind). isCounted e (countAt j) (m .count) ≡ true) k h
+
+  -- a profile has a value for each group
+  long-profile : length groupsOf ≡ groupCount
+  long-profile =
+      let room = stands-room e s m (m .count) refl (sym q) attenProfileInd-groups k in
+      let most = count-most e s m (m .count) refl (sym q) in
+      ap length groups-are ∙ rw (length-append, length-take, length-drop, length-replicate) (omega arith)
+
+  past-profile : (i : ℕ) → m .count ≤ i → getD groupsOf i 0 ≡ 0
+  past-profile i h = ap (λ (l : List ℕ). getD l i 0) groups-are ∙ past-count (m .count) (groupCount - m .count) (drop (size head + 8) s) i h
+
+-- ---- of the identifiers of a frame
+
+module _ (e : Edition) (g d f : ℕ) where
+  ids-fit : (vs : Values (payload e slacMatchReq g d f)) → fits (payload e slacMatchReq g d f) vs ≡ true → IsId e (vs .0) × IsId e (vs .1 .0)
+  ids-fit vs h =
+      let w = to-fits (payload e slacMatchReq g d f) vs h in
+      (record { long = w .1 .1 .0 .0; right = w .1 .1 .0 .1 }, record { long = w .1 .1 .1 .1 .0 .0; right = w .1 .1 .1 .1 .0 .1 })
+
+  ids-of : (k : Kind) (vs : Values (payload e k g d f)) → k ≡ slacMatchReq → fits (payload e k g d f) vs ≡ true → IsId e (besideIn e k g d f vs .first) × IsId e (besideIn e k g d f vs .second)
+  ids-of k vs q =
+      subst (λ (j : Kind). (xs : Values (payload e j g d f)) → fits (payload e j g d f) xs ≡ true → IsId e (besideIn e j g d f xs .first) × IsId e (besideIn e j g d f xs .second)) (sym q) ids-fit vs
+
+ids-right : (e : Edition) (s : List ℕ) (m : Message) → Octets s → readRules e s ≡ yes m → m .kind ≡ slacMatchReq
+    → IsId e (besideIn (m .edition) (m .kind) (m .count) (m .dst) (m .src) (m .values) .first) × IsId e (besideIn (m .edition) (m .kind) (m .count) (m .dst) (m .src) (m .values) .second)
+ids-right e s m o q =
+    let a = accepted e s m q in
+    let t = a .form in
+    let p = drop (size head) s in
+    let fs = payload e (t .kind) (t .count) (value s 0 6) (value s 6 6) in
+    let room : 0 + size fs ≤ length p = rw (length-drop, size-payload e (t .kind) (t .count) (value s 0 6) (value s 6 6)) (omega (arith, a .found .filled)) in
+    subst (λ (x : Message). x .kind ≡ slacMatchReq → IsId e (besideIn (x .edition) (x .kind) (x .count) (x .dst) (x .src) (x .values) .first) × IsId e (besideIn (x .edition) (x .kind) (x .count) (x .dst) (x .src) (x .values) .second))
+    (a .same)
+    (λ k. ids-of e (t .count) (value s 0 6) (value s 6 6) (t .kind) (read 0 fs p) k (read-fits p (octets-drop (size head) s o) fs 0 room (a .holding)))
+
+-- ---- what octets can ask for
 
 octet-message : (x : Checked Message) → OnYes OctetMessage x → (m : Message) → x ≡ yes m → OctetMessage m
-octet-message x h m e = subst (OnYes OctetMessage) e h
+octet-message x h m q = subst (OnYes OctetMessage) q h
 
-pub admitted-octets : (o : Configuration) (room : ℕ) (s : List ℕ) → Octets s → OnYes (λ (y : Received). OctetRequest (y .request)) (admitted o room (received s))
-admitted-octets o room s h = admitted-values Octets (λ (t : ℕ). t < 256) o room s
-    (λ m e. let q : OctetMessage m = octet-message (readRules s) (read-octets s h) m e in
-    (λ p. q .0, λ v. q .1))
+pub admitted-octets : (e : Edition) (o : Configuration) (room : ℕ) (s : List ℕ) → Octets s → OnYes (λ (y : Received). OctetRequest e (y .request)) (admitted o room (received e s))
+admitted-octets e o room s h = admitted-values (CountedValues e) (λ (t : ℕ). t < 256) (λ (a b : List ℕ). IsId e a × IsId e b) e o room s
+    (λ m q. let w : OctetMessage m = octet-message (readRules e s) (read-octets e s h) m q in
+    (λ k. record { count = count-right e s m q k; octets = w .0; past = past-profile e s m q k }, (λ v. w .1, λ v. ids-right e s m h q v)))
 
 -- a profile has a value for each group
-abbrev Long : List ℕ → Type 0
-Long vs = length vs ≡ groupCount
+abbrev Long : ℕ → List ℕ → Type 0
+Long g vs = length vs ≡ groupCount
 
 abbrev pub LongRequest : Request → Type 0
-LongRequest m = ValuesRequest Long (λ (t : ℕ). Unit {0}) m
+LongRequest m = Holds Long (λ (t : ℕ). Unit {0}) (λ (a b : List ℕ). Unit {0}) m
 
-long-profile : (s : List ℕ) (m : Message) → readRules s ≡ yes m → m .kind ≡ attenProfileInd → Long (groupsIn (m .kind) (m .dst) (m .src) (m .values))
-long-profile s m e k =
-    let room = groups-room attenProfileInd-groups s m k (sym e) in
-    let same = groups-read attenProfileInd-groups s m k (sym e) ∙ ap groupsOf e in
-    ap length (sym same) ∙ rw (length-take, length-drop) (omega arith)
-
-pub admitted-long : (o : Configuration) (room : ℕ) (s : List ℕ) → OnYes (λ (y : Received). LongRequest (y .request)) (admitted o room (received s))
-admitted-long o room s = admitted-values Long (λ (t : ℕ). Unit {0}) o room s (λ m e. (λ k. long-profile s m e k, λ v. tt))
+pub admitted-long : (e : Edition) (o : Configuration) (room : ℕ) (s : List ℕ) → OnYes (λ (y : Received). LongRequest (y .request)) (admitted o room (received e s))
+admitted-long e o room s = admitted-values Long (λ (t : ℕ). Unit {0}) (λ (a b : List ℕ). Unit {0}) e o room s (λ m q. (λ k. long-profile e s m q k, (λ v. tt, λ v. tt)))

@@ -23,9 +23,9 @@ use Rattle.rules.proofs.RecordLaws.{same-refl, same-eq, same-swap, hold
 -- octets 0 to 5 of a reply are its car's address
 reply-to : (o : Configuration) (c : CarAddress) (t : Reply) → isUnicast (c .0) ≡ true → value (frameTo o c t) 0 6 ≡ c .0
 unfolding frameTo
-reply-to o c (parmCnf run) h = frame-destination (messageTo o c (parmCnf run)) (unicast-lt (c .0) h)
-reply-to o c (matchCnf run) h = frame-destination (messageTo o c (matchCnf run)) (unicast-lt (c .0) h)
-reply-to o c (report run n vs) h = frame-destination (messageTo o c (report run n vs)) (unicast-lt (c .0) h)
+reply-to o c (parmCnf later run) h = frame-destination (messageTo o c (parmCnf later run)) (unicast-lt (c .0) h)
+reply-to o c (matchCnf run a b) h = frame-destination (messageTo o c (matchCnf run a b)) (unicast-lt (c .0) h)
+reply-to o c (report run n g vs) h = frame-destination (messageTo o c (report run n g vs)) (unicast-lt (c .0) h)
 reply-to o c (confirmation k x) h = frame-destination (messageTo o c (confirmation k x)) (unicast-lt (c .0) h)
 
 to-same : (o : Configuration) (c d : CarAddress) (t : Reply) → isUnicast (d .0) ≡ true → isTo c (frameTo o d t) ≡ sameCar d c

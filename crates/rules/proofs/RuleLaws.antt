@@ -6,6 +6,7 @@ use mathlib.Core.List.{List, [], _∷_}
 use lib.Dec.{eqb, ltb}
 use borrow.Author.Tests.{ltb-true, lt-ltb}
 use Rattle.messages.specs.declared.CarAddress.{CarAddress}
+use Rattle.messages.specs.declared.Edition.{Edition}
 use Rattle.messages.specs.declared.RunId.{RunId}
 use Rattle.messages.specs.Reading.{Checked, no, yes, check}
 use Rattle.rules.specs.declared.Phase.{Phase}
@@ -14,7 +15,7 @@ use Rattle.rules.specs.declared.Record.{Record}
 use Rattle.rules.specs.Records.{sameRun, isEmpty}
 use Rattle.rules.specs.Replies.{Reply, confirmation}
 use Rattle.rules.specs.Received.{RecordMessage, parmReq, start, sound, profile, rsp, validateFirst, validateSecond}
-use Rattle.rules.specs.Frames.{Kept, freePlace, Change, putBack, startRule, soundRule, profileRule, rspRule, firstRule, secondRule, atOwn, atRun, requested, parmRule, changeRule, matchRule}
+use Rattle.rules.specs.Frames.{Kept, freePlace, Change, putBack, isLater, startRule, soundRule, profileRule, rspRule, firstRule, secondRule, atOwn, atRun, requested, parmRule, changeRule, matchRule}
 use Rattle.ends.proofs.Logic.{clash, OnYes, on-check}
 use Rattle.rules.proofs.RecordLaws.{Ready, takes}
 
@@ -41,37 +42,37 @@ back-ready : (free : ℕ) (own : List Record) (w : Checked Kept) → OnYes (IsRe
 back-ready free own (no n) = tt
 back-ready free own (yes k) = tt
 
-parm-ready : (c : CarAddress) (run : RunId) (a free : ℕ) (own : List Record) → OnYes (IsReady free own) (parmRule c run a free own)
+parm-ready : (e : Edition) (c : CarAddress) (run : RunId) (a free : ℕ) (own : List Record) → OnYes (IsReady free own) (parmRule e c run a free own)
 unfolding parmRule requested
-parm-ready c run a free (r ∷ own) = tt
-parm-ready c run a free [] = on-check (IsReady free []) (ltb 0 a) 9 _ (λ g. on-check (IsReady free []) (ltb 0 free) 10 _ (λ h. (refl, ltb-true 0 free h)))
+parm-ready e c run a free (r ∷ own) = tt
+parm-ready e c run a free [] = on-check (IsReady free []) (ltb 0 a) 9 _ (λ g. on-check (IsReady free []) (ltb 0 free) 10 _ (λ h. (refl, ltb-true 0 free h)))
 
-pub change-ready : (c : CarAddress) (m : RecordMessage) (a free result : ℕ) (own : List Record) → OnYes (λ (x : Change). Ready (x .place) free own) (changeRule c m a free result own)
+pub change-ready : (e : Edition) (c : CarAddress) (m : RecordMessage) (a free result : ℕ) (own : List Record) → OnYes (λ (x : Change). Ready (x .place) free own) (changeRule e c m a free result own)
 unfolding changeRule
-change-ready c (parmReq run) a free result own = on-check (IsReady free own) (not (isEmpty run)) _ _ (λ e. parm-ready c run a free own)
-change-ready c (start run) a free result own = back-ready free own (atRun run own (λ (r : Record). startRule r (r .phase)))
-change-ready c (sound run k) a free result own = back-ready free own (atRun run own (λ (r : Record). soundRule k r (r .phase)))
-change-ready c (profile vs) a free result own = back-ready free own (atOwn own (λ (r : Record). profileRule vs r (r .phase)))
-change-ready c (rsp run) a free result own = back-ready free own (atRun run own (λ (r : Record). rspRule r (r .phase)))
-change-ready c validateFirst a free result own = back-ready free own (atOwn own (λ (r : Record). firstRule result r (r .phase)))
-change-ready c (validateSecond timer) a free result own = back-ready free own (atOwn own (λ (r : Record). secondRule timer r (r .phase)))
+change-ready e c (parmReq run) a free result own = on-check (IsReady free own) (not (isEmpty run)) _ _ (λ n. parm-ready e c run a free own)
+change-ready e c (start run k) a free result own = back-ready free own (atRun run own (λ (r : Record). startRule e k r (r .phase)))
+change-ready e c (sound run k) a free result own = back-ready free own (atRun run own (λ (r : Record). soundRule e k r (r .phase)))
+change-ready e c (profile g vs) a free result own = back-ready free own (atOwn own (λ (r : Record). profileRule e g vs r (r .phase)))
+change-ready e c (rsp run) a free result own = back-ready free own (atRun run own (λ (r : Record). rspRule r (r .phase)))
+change-ready e c validateFirst a free result own = back-ready free own (atOwn own (λ (r : Record). firstRule result r (r .phase)))
+change-ready e c (validateSecond timer) a free result own = back-ready free own (atOwn own (λ (r : Record). secondRule timer r (r .phase)))
 
 -- ---- the number of free places decides only 10, the result only what a first validate request is answered
 
 abbrev pub isAsk : RecordMessage → Bool
 isAsk (parmReq run) = true
-isAsk (start run) = false
+isAsk (start run k) = false
 isAsk (sound run k) = false
-isAsk (profile vs) = false
+isAsk (profile g vs) = false
 isAsk (rsp run) = false
 isAsk validateFirst = false
 isAsk (validateSecond timer) = false
 
 abbrev pub isValidate : RecordMessage → Bool
 isValidate (parmReq run) = false
-isValidate (start run) = false
+isValidate (start run k) = false
 isValidate (sound run k) = false
-isValidate (profile vs) = false
+isValidate (profile g vs) = false
 isValidate (rsp run) = false
 isValidate validateFirst = true
 isValidate (validateSecond timer) = true
@@ -80,17 +81,17 @@ abbrev pub refusedTen : Checked Change → Bool
 refusedTen (no n) = eqb n 10
 refusedTen (yes x) = false
 
-parm-same : (c : CarAddress) (run : RunId) (a free free′ : ℕ) (own : List Record)
-    → refusedTen (parmRule c run a free own) ≡ false → OnYes (λ (x : Change). takes (x .place) ≤ free′) (parmRule c run a free own)
-    → parmRule c run a free own ≡ parmRule c run a free′ own
+parm-same : (e : Edition) (c : CarAddress) (run : RunId) (a free free′ : ℕ) (own : List Record)
+    → refusedTen (parmRule e c run a free own) ≡ false → OnYes (λ (x : Change). takes (x .place) ≤ free′) (parmRule e c run a free own)
+    → parmRule e c run a free own ≡ parmRule e c run a free′ own
 unfolding parmRule requested
-parm-same c run a free free′ (r ∷ own) t k = refl
-parm-same c run a free free′ [] t k = go (ltb 0 a) (ltb 0 free) t k
+parm-same e c run a free free′ (r ∷ own) t k = refl
+parm-same e c run a free free′ [] t k = go (ltb 0 a) (ltb 0 free) t k
   where
     go : (x y : Bool)
-        → refusedTen (check x 9 (check y 10 (yes (requested c run freePlace)))) ≡ false
-        → OnYes (λ (z : Change). takes (z .place) ≤ free′) (check x 9 (check y 10 (yes (requested c run freePlace))))
-        → check x 9 (check y 10 (yes (requested c run freePlace))) ≡ check x 9 (check (ltb 0 free′) 10 (yes (requested c run freePlace)))
+        → refusedTen (check x 9 (check y 10 (yes (requested (isLater e freePlace) c run freePlace)))) ≡ false
+        → OnYes (λ (z : Change). takes (z .place) ≤ free′) (check x 9 (check y 10 (yes (requested (isLater e freePlace) c run freePlace))))
+        → check x 9 (check y 10 (yes (requested (isLater e freePlace) c run freePlace))) ≡ check x 9 (check (ltb 0 free′) 10 (yes (requested (isLater e freePlace) c run freePlace)))
     go false y t k = refl
     go true false t k = clash true refl t
     go true true t k = rw (lt-ltb 0 free′ k)
@@ -115,24 +116,24 @@ validate-same result result′ [] v = refl
 validate-same result result′ (r ∷ own) v = first-same result result′ r (r .phase) v
 
 -- a request that 21 refuses is refused whatever is free
-unempty-same : (c : CarAddress) (run : RunId) (b : Bool) (a free free′ : ℕ) (own : List Record)
-    → refusedTen (check b 21 (parmRule c run a free own)) ≡ false → OnYes (λ (x : Change). takes (x .place) ≤ free′) (check b 21 (parmRule c run a free own))
-    → check b 21 (parmRule c run a free own) ≡ check b 21 (parmRule c run a free′ own)
-unempty-same c run true a free free′ own t k = parm-same c run a free free′ own t k
-unempty-same c run false a free free′ own t k = refl
+unempty-same : (e : Edition) (c : CarAddress) (run : RunId) (b : Bool) (a free free′ : ℕ) (own : List Record)
+    → refusedTen (check b 21 (parmRule e c run a free own)) ≡ false → OnYes (λ (x : Change). takes (x .place) ≤ free′) (check b 21 (parmRule e c run a free own))
+    → check b 21 (parmRule e c run a free own) ≡ check b 21 (parmRule e c run a free′ own)
+unempty-same e c run true a free free′ own t k = parm-same e c run a free free′ own t k
+unempty-same e c run false a free free′ own t k = refl
 
-pub change-same : (c : CarAddress) (m : RecordMessage) (a free free′ result result′ : ℕ) (own : List Record)
-    → isAsk m && refusedTen (changeRule c m a free result own) ≡ false → OnYes (λ (x : Change). takes (x .place) ≤ free′) (changeRule c m a free result own)
-    → OnYes (SameResult m result result′) (changeRule c m a free result own)
-    → changeRule c m a free result own ≡ changeRule c m a free′ result′ own
+pub change-same : (e : Edition) (c : CarAddress) (m : RecordMessage) (a free free′ result result′ : ℕ) (own : List Record)
+    → isAsk m && refusedTen (changeRule e c m a free result own) ≡ false → OnYes (λ (x : Change). takes (x .place) ≤ free′) (changeRule e c m a free result own)
+    → OnYes (SameResult m result result′) (changeRule e c m a free result own)
+    → changeRule e c m a free result own ≡ changeRule e c m a free′ result′ own
 unfolding changeRule
-change-same c (parmReq run) a free free′ result result′ own t k v = unempty-same c run (not (isEmpty run)) a free free′ own t k
-change-same c (start run) a free free′ result result′ own t k v = refl
-change-same c (sound run n) a free free′ result result′ own t k v = refl
-change-same c (profile vs) a free free′ result result′ own t k v = refl
-change-same c (rsp run) a free free′ result result′ own t k v = refl
-change-same c validateFirst a free free′ result result′ own t k v = validate-same result result′ own v
-change-same c (validateSecond timer) a free free′ result result′ own t k v = refl
+change-same e c (parmReq run) a free free′ result result′ own t k v = unempty-same e c run (not (isEmpty run)) a free free′ own t k
+change-same e c (start run p) a free free′ result result′ own t k v = refl
+change-same e c (sound run n) a free free′ result result′ own t k v = refl
+change-same e c (profile g vs) a free free′ result result′ own t k v = refl
+change-same e c (rsp run) a free free′ result result′ own t k v = refl
+change-same e c validateFirst a free free′ result result′ own t k v = validate-same result result′ own v
+change-same e c (validateSecond timer) a free free′ result result′ own t k v = refl
 
 -- what is refused after a test is refused
 still-no : (b : Bool) (m n : ℕ) → (k : ℕ) × (check {A = Change} b m (no n) ≡ no k)
@@ -140,15 +141,15 @@ still-no true m n = (n, refl)
 still-no false m n = (m, refl)
 
 -- admission closed, and no record: whatever comes is refused
-pub change-closed : (c : CarAddress) (m : RecordMessage) (free result : ℕ) → (n : ℕ) × (changeRule c m 0 free result [] ≡ no n)
+pub change-closed : (e : Edition) (c : CarAddress) (m : RecordMessage) (free result : ℕ) → (n : ℕ) × (changeRule e c m 0 free result [] ≡ no n)
 unfolding changeRule parmRule
-change-closed c (parmReq run) free result = still-no (not (isEmpty run)) _ _
-change-closed c (start run) free result = (11, refl)
-change-closed c (sound run k) free result = (11, refl)
-change-closed c (profile vs) free result = (11, refl)
-change-closed c (rsp run) free result = (11, refl)
-change-closed c validateFirst free result = (11, refl)
-change-closed c (validateSecond timer) free result = (11, refl)
+change-closed e c (parmReq run) free result = still-no (not (isEmpty run)) _ _
+change-closed e c (start run k) free result = (11, refl)
+change-closed e c (sound run k) free result = (11, refl)
+change-closed e c (profile g vs) free result = (11, refl)
+change-closed e c (rsp run) free result = (11, refl)
+change-closed e c validateFirst free result = (11, refl)
+change-closed e c (validateSecond timer) free result = (11, refl)
 
 pub match-none : (run : RunId) → matchRule run [] ≡ no 11
 unfolding matchRule

@@ -7,6 +7,7 @@ use lib.Dec.{eqb}
 use lib.ListN.{length}
 use borrow.Author.Tests.{eqb-true}
 use Rattle.messages.specs.declared.CarAddress.{CarAddress}
+use Rattle.messages.specs.declared.Edition.{Edition}
 use Rattle.messages.specs.Table.{Kind, slacParmReq, validateReq, slacMatchReq, typeOf, Message}
 use Rattle.messages.specs.Reading.{Checked, no, yes, readRules}
 use Rattle.messages.proofs.LayoutLaws.{and-left}
@@ -31,10 +32,11 @@ use Rattle.rules.specs.Demand3.{named, isCar, accepted, isRead, isKind, 
 use Rattle.ends.proofs.Logic.{split, clash, or-left, or-right, OnYes}
 use Rattle.rules.proofs.RecordLaws.{none-freed}
 use Rattle.rules.proofs.RuleLaws.{on-own, on-back, isValidate}
-use Rattle.rules.proofs.ReceivedLaws.{validatesIn, ReadAs, read-as}
+use Rattle.rules.proofs.ReceivedLaws.{validatesIn, ReadAs}
 use Rattle.rules.proofs.ReplyLaws.{Unicast}
 use Rattle.rules.proofs.ValidationLaws.{none-busy, free-busy, fails-not}
 use Rattle.rules.proofs.Always.{Meets}
+use Rattle.rules.proofs.EditionLaws.{read-in, edition-step, edition-after}
 use Rattle.rules.proofs.OneValidates.{Few, Allows, few-next}
 use Rattle.rules.proofs.PartOne.{plug-call, undisturbed}
 
@@ -73,12 +75,12 @@ module _ (o : Configuration) (c : CarAddress) (exempt : Bool) (rs : List Record)
   own-calm : (own : List Record) (f : Record → Checked Kept) → ((r : Record) → OnYes CalmKept (f r)) → OnYes CalmChange (putBack (atOwn own f))
   own-calm own f h = on-back (λ (r : Record) (ts : List Reply). Calm ts) (atOwn own f) (on-own CalmKept own f (λ r l q. h r))
 
-  change-calm : (m : RecordMessage) (a free : ℕ) (own : List Record) → isValidate m ≡ true → OnYes CalmChange (changeRule c m a free (firstResult exempt rs) own)
+  change-calm : (m : RecordMessage) (a free : ℕ) (own : List Record) → isValidate m ≡ true → OnYes CalmChange (changeRule (o .edition) c m a free (firstResult exempt rs) own)
   unfolding changeRule
   change-calm (parmReq run) a free own v = clash true refl (sym v)
-  change-calm (start run) a free own v = clash true refl (sym v)
+  change-calm (start run k) a free own v = clash true refl (sym v)
   change-calm (sound run k) a free own v = clash true refl (sym v)
-  change-calm (profile vs) a free own v = clash true refl (sym v)
+  change-calm (profile g vs) a free own v = clash true refl (sym v)
   change-calm (rsp run) a free own v = clash true refl (sym v)
   change-calm validateFirst a free own v = own-calm own (λ (r : Record). firstRule (firstResult exempt rs) r (r .phase)) (λ r. first-calm r (r .phase))
   change-calm (validateSecond timer) a free own v = own-calm own (λ (r : Record). secondRule timer r (r .phase)) (λ r. second-calm timer r (r .phase))
@@ -92,25 +94,25 @@ calm-changed o st rs c (yes x) h = h
 calm-state : (o : Configuration) (st : State) (rs : List Record) (c : CarAddress) (m : Request) → validatesIn m ≡ true → anyValidates rs ≡ false → anyFailure (framesOf (outcomeOf (stateRule o st rs c m))) ≡ false
 unfolding stateRule anyFailure
 calm-state o Unmatched rs c m v e = refl
-calm-state o (Matching a) rs c (forRecord m) v e = calm-changed o (Matching a) rs c (changeRule c m a (freePlaces rs) (firstResult (o .exempt) rs) (mine c rs)) (change-calm o c (o .exempt) rs e m a (freePlaces rs) (mine c rs) v)
-calm-state o (Matching a) rs c (matchReq run) v e = clash true refl (sym v)
+calm-state o (Matching a) rs c (forRecord m) v e = calm-changed o (Matching a) rs c (changeRule (o .edition) c m a (freePlaces rs) (firstResult (o .exempt) rs) (mine c rs)) (change-calm o c (o .exempt) rs e m a (freePlaces rs) (mine c rs) v)
+calm-state o (Matching a) rs c (matchReq run x y) v e = clash true refl (sym v)
 calm-state o (Joining l d k) rs c (forRecord m) v e = refl
-calm-state o (Joining l d k) rs c (matchReq run) v e = clash true refl (sym v)
+calm-state o (Joining l d k) rs c (matchReq run x y) v e = clash true refl (sym v)
 calm-state o Matched rs c m v e = refl
 
-calm-frame : (o : Configuration) (i : Inner) (s : List ℕ) (w : Checked Received) → OnYes (ReadAs (readRules s)) w → isRead validateReq (readRules s) ≡ true → anyValidates (i .records) ≡ false
+calm-frame : (e : Edition) (o : Configuration) (i : Inner) (s : List ℕ) (w : Checked Received) → OnYes (ReadAs (readRules e s)) w → isRead validateReq (readRules e s) ≡ true → anyValidates (i .records) ≡ false
     → anyFailure (framesOf (outcomeOf (frameRule o i w))) ≡ false
 unfolding anyFailure
-calm-frame o i s (no n) t k e = refl
-calm-frame o i s (yes y) t k e = calm-state o (i .state) (i .records) (y .car) (y .request) (sym (t .validating) ∙ k) e
+calm-frame e o i s (no n) t k f = refl
+calm-frame e o i s (yes y) t k f = calm-state o (i .state) (i .records) (y .car) (y .request) (sym (t .validating) ∙ k) f
 
-calm-call : (o : Shared) (i : Inner) (x : Call) → Few 0 (i .records) → isKind validateReq x ≡ true → anyFailure (framesOf (outcomeOf (rule o i x))) ≡ false
+calm-call : (e : Edition) (o : Shared) → o .config .edition ≡ e → (i : Inner) (x : Call) → Few 0 (i .records) → isKind e validateReq x ≡ true → anyFailure (framesOf (outcomeOf (rule o i x))) ≡ false
 unfolding isKind rule
-calm-call o i (frame s room) h k = calm-frame (o .config) i s (admitted (o .config) room (received s)) (read-as (o .config) room s) k (none-busy (i .records) h)
-calm-call o i (tick t room) h k = clash true refl (sym k)
-calm-call o i (pilot p t) h k = clash true refl (sym k)
-calm-call o i terminate h k = clash true refl (sym k)
-calm-call o i linkUp h k = clash true refl (sym k)
+calm-call e o w i (frame s room) h k = calm-frame e (o .config) i s (admitted (o .config) room (received (o .config .edition) s)) (read-in e (o .config) w room s) k (none-busy (i .records) h)
+calm-call e o w i (tick t room) h k = clash true refl (sym k)
+calm-call e o w i (pilot p t) h k = clash true refl (sym k)
+calm-call e o w i terminate h k = clash true refl (sym k)
+calm-call e o w i linkUp h k = clash true refl (sym k)
 
 -- ---- and none gets so but by an accepted validate request
 
@@ -119,29 +121,29 @@ unfolding accepted
 refused-stays i (no n) e = refl
 refused-stays i (yes d) e = clash true refl e
 
-others-frame : (s : List ℕ) (w : Checked Received) → OnYes (ReadAs (readRules s)) w → isRead validateReq (readRules s) ≡ false → OnYes (λ (y : Received). Allows 0 (y .request)) w
-others-frame s (no n) t k = tt
-others-frame s (yes y) t k = λ v. clash (validatesIn (y .request)) v (sym (t .validating) ∙ k)
+others-frame : (e : Edition) (s : List ℕ) (w : Checked Received) → OnYes (ReadAs (readRules e s)) w → isRead validateReq (readRules e s) ≡ false → OnYes (λ (y : Received). Allows 0 (y .request)) w
+others-frame e s (no n) t k = tt
+others-frame e s (yes y) t k = λ v. clash (validatesIn (y .request)) v (sym (t .validating) ∙ k)
 
-others-meet : (o : Configuration) (x : Call) → isKind validateReq x ≡ false → Meets (Allows 0) o x
+others-meet : (e : Edition) (o : Configuration) → o .edition ≡ e → (x : Call) → isKind e validateReq x ≡ false → Meets (Allows 0) o x
 unfolding isKind
-others-meet o (frame s room) k = others-frame s (admitted o room (received s)) (read-as o room s) k
-others-meet o (tick t room) k = tt
-others-meet o (pilot p t) k = tt
-others-meet o terminate k = tt
-others-meet o linkUp k = tt
+others-meet e o w (frame s room) k = others-frame e s (admitted o room (received (o .edition) s)) (read-in e o w room s) k
+others-meet e o w (tick t room) k = tt
+others-meet e o w (pilot p t) k = tt
+others-meet e o w terminate k = tt
+others-meet e o w linkUp k = tt
 
-still-none : (o : Shared) (i : Inner) (x : Call) → isAccepted validateReq x (outcomeOf (rule o i x)) ≡ false → Few 0 (i .records) → Few 0 (next i (rule o i x) .records)
+still-none : (e : Edition) (o : Shared) → o .config .edition ≡ e → (i : Inner) (x : Call) → isAccepted e validateReq x (outcomeOf (rule o i x)) ≡ false → Few 0 (i .records) → Few 0 (next i (rule o i x) .records)
 unfolding isAccepted
-still-none o i x e h = split (isKind validateReq x)
-    (λ k. rw (refused-stays i (rule o i x) (rw k at e)) h)
-    (λ k. few-next 0 o i x (others-meet (o .config) x k) h)
+still-none e o w i x q h = split (isKind e validateReq x)
+    (λ k. rw (refused-stays i (rule o i x) (rw k at q)) h)
+    (λ k. few-next 0 o i x (others-meet e (o .config) w x k) h)
 
 -- ---- the windows
 
-goes-on : (c : CarAddress) (x : Call) (u : Outcome) → endsFor c x u ≡ false → (isKind validateReq x ≡ true → anyFailure (framesOf u) ≡ false) → ends c x u ≡ false
+goes-on : (e : Edition) (c : CarAddress) (x : Call) (u : Outcome) → endsFor e c x u ≡ false → (isKind e validateReq x ≡ true → anyFailure (framesOf u) ≡ false) → ends e c x u ≡ false
 unfolding ends
-goes-on c x u e f = rw e (split (isKind validateReq x) (λ k. rw (k, f k) (and-false (isCar c (named x)))) (λ k. rw k))
+goes-on e c x u q f = rw q (split (isKind e validateReq x) (λ k. rw (k, f k) (and-false (isCar c (named e x)))) (λ k. rw k))
 
 -- a validate request is no other request
 one-kind : (k : Kind) (x : Checked Message) → isRead validateReq x ≡ true → isRead k x ≡ eqb (typeOf k) (typeOf validateReq)
@@ -149,30 +151,31 @@ unfolding isRead
 one-kind k (no n) e = clash true refl (sym e)
 one-kind k (yes m) e = ap (eqb (typeOf k)) (sym (eqb-true (typeOf validateReq) (typeOf (m .kind)) e))
 
-validate-lasts : (c : CarAddress) (x : Call) (u : Outcome) → isKind validateReq x ≡ true → endsFor c x u ≡ false
+validate-lasts : (e : Edition) (c : CarAddress) (x : Call) (u : Outcome) → isKind e validateReq x ≡ true → endsFor e c x u ≡ false
 unfolding endsFor isEnd isKind
-validate-lasts c (frame s room) u e = rw (one-kind slacMatchReq (readRules s) e, one-kind slacParmReq (readRules s) e)
-validate-lasts c (tick t room) u e = clash true refl (sym e)
-validate-lasts c (pilot p t) u e = clash true refl (sym e)
-validate-lasts c terminate u e = clash true refl (sym e)
-validate-lasts c linkUp u e = clash true refl (sym e)
+validate-lasts e c (frame s room) u k = rw (one-kind slacMatchReq (readRules e s) k, one-kind slacParmReq (readRules e s) k)
+validate-lasts e c (tick t room) u k = clash true refl (sym k)
+validate-lasts e c (pilot p t) u k = clash true refl (sym k)
+validate-lasts e c terminate u k = clash true refl (sym k)
+validate-lasts e c linkUp u k = clash true refl (sym k)
 
-longer : (c : CarAddress) {s : Station} {xs : List Call} → Shorter c s xs → Few 0 (s .records) → Longer c s xs
+longer : (e : Edition) (c : CarAddress) {s : Station} {xs : List Call} → Shorter e c s xs → s .config .edition ≡ e → Few 0 (s .records) → Longer e c s xs
 unfolding step outcome endsEarly isOwnAccepted
-longer c (begun {s}) h = begun
-longer c (further {s} {x} {xs} e l) h =
-    further (goes-on c x (outcome s x) (or-left _ _ e) (calm-call (shared s) (inner s) x h))
-    (longer c l (still-none (shared s) (inner s) x (or-right (endsFor c x (outcome s x)) _ e) h))
-longer c (matched {s} {x} e) h = split (isOwnAccepted c slacMatchReq x (outcome s x))
+longer e c (begun {s}) w h = begun
+longer e c (further {s} {x} {xs} q l) w h =
+    further (goes-on e c x (outcome s x) (or-left _ _ q) (calm-call e (shared s) w (inner s) x h))
+    (longer e c l (edition-step e s x w) (still-none e (shared s) w (inner s) x (or-right (endsFor e c x (outcome s x)) _ q) h))
+longer e c (matched {s} {x} q) w h = split (isOwnAccepted e c slacMatchReq x (outcome s x))
     (λ g. matched g)
     (λ g.
-    let v : isKind validateReq x && isCar c (named x) && accepted (outcome s x) ≡ true = rw g at e in
-    let k : isKind validateReq x ≡ true = and-left _ _ (and-left _ _ v) in
-    further (goes-on c x (outcome s x) (validate-lasts c x (outcome s x) k) (calm-call (shared s) (inner s) x h)) begun)
+    let v : isKind e validateReq x && isCar c (named e x) && accepted (outcome s x) ≡ true = rw g at q in
+    let k : isKind e validateReq x ≡ true = and-left _ _ (and-left _ _ v) in
+    further (goes-on e c x (outcome s x) (validate-lasts e c x (outcome s x) k) (calm-call e (shared s) w (inner s) x h)) begun)
 
 pub undisturbed-shorter : (s₀ : Station) → 0 < length (s₀ .records) → All Unicast (s₀ .records) → (c : CarAddress) (before : List Call) (plug : Call) (since : List Call) → Undisturbed Shorter s₀ c before plug since
 unfolding step
 undisturbed-shorter s₀ z q c before plug since h l =
+    let e : Edition = s₀ .config .edition in
     let s₁ : Station = after s₀ before in
     let f : Few 0 (step s₁ plug .records) = rw (plug-call (shared s₁) (inner s₁) plug h (inner s₁)) (free-busy (map freed (s₁ .records)) (none-freed (s₁ .records))) in
-    undisturbed s₀ z q c before plug since h (longer c l f)
+    undisturbed s₀ z q c before plug since h (longer e c l (edition-step e s₁ plug (edition-after e s₀ before refl)) f)

@@ -7,6 +7,7 @@ use native.Mathlib.Omega.{arith}
 use lib.Dec.{eqb, leb}
 use lib.ListN.{length, getD, replicate}
 use Rattle.messages.specs.declared.CarAddress.{CarAddress}
+use Rattle.messages.specs.declared.Edition.{Edition}
 use Rattle.messages.specs.declared.RunId.{RunId}
 use Rattle.messages.specs.Table.{groupCount}
 use Rattle.rules.specs.declared.Phase.{Phase}
@@ -21,7 +22,7 @@ use Rattle.ends.specs.Lists.{All}
 use Rattle.ends.specs.Outcomes.{next}
 use Rattle.rules.specs.Calls.{Call}
 use Rattle.rules.specs.Stations.{Shared, Inner, shared, inner}
-use Rattle.rules.specs.Records.{isHeld, holds, mine, freePlaces, owned, freed, noSpread, fresh, inPhase, withHeard, merged, widened, counted}
+use Rattle.rules.specs.Records.{isHeld, holds, mine, freePlaces, owned, freed, noSpread, fresh, inPhase, withHeard, merged, widened, groupsKept, counted}
 use Rattle.rules.specs.Received.{RecordMessage, parmReq, start, sound, profile, rsp, validateFirst, validateSecond, forRecord}
 use Rattle.rules.specs.Validation.{firstResult, toggledRecord}
 use Rattle.rules.specs.Frames.{Change, startRule, soundRule, profileRule, rspRule, answered, firstRule, secondRule, changeRule, put}
@@ -60,13 +61,13 @@ merged-ordered (x ∷ xs) [] (v ∷ vs) i a b = absurd (omega arith)
 merged-ordered (x ∷ xs) (y ∷ ys) (v ∷ vs) zero a b = omega arith
 merged-ordered (x ∷ xs) (y ∷ ys) (v ∷ vs) (suc i) a b = merged-ordered xs ys vs i (omega arith) (omega arith)
 
-wide-fresh : (c : CarAddress) (run : RunId) → Wide (fresh c run)
+wide-fresh : (later : Bool) (c : CarAddress) (run : RunId) → Wide (fresh later c run)
 unfolding fresh noSpread
-wide-fresh c run = (record { least = refl; greatest = refl }, λ h. absurd (omega arith))
+wide-fresh later c run = (record { least = refl; greatest = refl }, λ h. absurd (omega arith))
 
-wide-counted : (vs : List ℕ) (r : Record) → length vs ≡ groupCount → Wide r → Wide (counted vs r)
+wide-counted : (g : ℕ) (vs : List ℕ) (r : Record) → length vs ≡ groupCount → Wide r → Wide (counted g vs r)
 unfolding counted widened
-wide-counted vs r l (w, o) = (
+wide-counted g vs r l (w, o) = (
   record { least = merged-length min (r .spread .least) vs ∙ w .least; greatest = merged-length max (r .spread .greatest) vs ∙ w .greatest },
   λ h i. merged-ordered (r .spread .least) (r .spread .greatest) vs i (omega arith) (omega arith),
 )
@@ -85,42 +86,42 @@ wide-phase p r w = w
 
 -- ---- a frame at its car's record
 
-module _ (r : Record) (w : Wide r) where
-  start-wide : OnYes (OfKept Wide) (startRule r (r .phase))
-  start-wide = on-start Wide r (r .phase) (λ t e. wide-phase _ r w) (λ t e. w)
+module _ (e : Edition) (r : Record) (w : Wide r) where
+  start-wide : (k : ℕ) → OnYes (OfKept Wide) (startRule e k r (r .phase))
+  start-wide k = on-start (OfKept Wide) e r k (r .phase) (λ t q. wide-phase _ r w) (λ t q. w)
 
-  sound-wide : (k : ℕ) → OnYes (OfKept Wide) (soundRule k r (r .phase))
+  sound-wide : (k : ℕ) → OnYes (OfKept Wide) (soundRule e k r (r .phase))
   unfolding withHeard
-  sound-wide k = on-sound Wide r k (r .phase) (λ a b. w)
+  sound-wide k = on-sound (OfKept Wide) e r k (r .phase) (λ a b. w)
 
-  profile-wide : (vs : List ℕ) → length vs ≡ groupCount → OnYes (OfKept Wide) (profileRule vs r (r .phase))
-  profile-wide vs l = let n = wide-counted vs r l w in on-profile Wide r vs (r .phase) (λ t e a. wide-phase _ (counted vs r) n) (λ t e a. n)
+  profile-wide : (g : ℕ) (vs : List ℕ) → length vs ≡ groupCount → OnYes (OfKept Wide) (profileRule e g vs r (r .phase))
+  profile-wide g vs l = let n = wide-counted (groupsKept e g) vs r l w in on-profile (OfKept Wide) e r g vs (r .phase) (λ t q k a. wide-phase _ (counted (groupsKept e g) vs r) n) (λ t q k a. n)
 
   rsp-wide : OnYes (OfKept Wide) (rspRule r (r .phase))
-  rsp-wide = on-rsp Wide r (r .phase) (λ t n e. wide-phase _ r w)
+  rsp-wide = on-rsp (OfKept Wide) e r (r .phase) (λ t n q. wide-phase _ r w)
 
   first-wide : (result : ℕ) → OnYes (OfKept Wide) (firstRule result r (r .phase))
   unfolding answered
-  first-wide result = on-first Wide r result (r .phase) (λ t e. on-cond Wide (eqb result readyResult) _ r (λ a. wide-phase _ r w) (λ a. w))
+  first-wide result = on-first (OfKept Wide) e r result (r .phase) (λ t q. on-cond Wide (eqb result readyResult) _ r (λ a. wide-phase _ r w) (λ a. w))
 
   second-wide : (timer : ℕ) → OnYes (OfKept Wide) (secondRule timer r (r .phase))
-  second-wide timer = on-second Wide r timer (r .phase) (λ t e. wide-phase _ r w)
+  second-wide timer = on-second (OfKept Wide) e r timer (r .phase) (λ t q. wide-phase _ r w)
 
-module _ (own : List Record) (g : All Wide own) where
-  change-wide : (c : CarAddress) (m : RecordMessage) → LongRequest (forRecord m) → (a free result : ℕ) → OnYes (OfChange Wide) (changeRule c m a free result own)
+module _ (e : Edition) (own : List Record) (g : All Wide own) where
+  change-wide : (c : CarAddress) (m : RecordMessage) → LongRequest (forRecord m) → (a free result : ℕ) → OnYes (OfChange Wide) (changeRule e c m a free result own)
   unfolding changeRule
-  change-wide c (parmReq run) l a free result = on-parm Wide c run a free result own (wide-fresh c run)
-  change-wide c (start run) l a free result = back-run Wide Wide own g run (λ (r : Record). startRule r (r .phase)) start-wide
-  change-wide c (sound run k) l a free result = back-run Wide Wide own g run (λ (r : Record). soundRule k r (r .phase)) (λ r w. sound-wide r w k)
-  change-wide c (profile vs) l a free result = back-own Wide Wide own g (λ (r : Record). profileRule vs r (r .phase)) (λ r w. profile-wide r w vs l)
-  change-wide c (rsp run) l a free result = back-run Wide Wide own g run (λ (r : Record). rspRule r (r .phase)) rsp-wide
-  change-wide c validateFirst l a free result = back-own Wide Wide own g (λ (r : Record). firstRule result r (r .phase)) (λ r w. first-wide r w result)
-  change-wide c (validateSecond timer) l a free result = back-own Wide Wide own g (λ (r : Record). secondRule timer r (r .phase)) (λ r w. second-wide r w timer)
+  change-wide c (parmReq run) l a free result = on-parm Wide e c run a free result own (λ p. wide-fresh _ c run)
+  change-wide c (start run k) l a free result = back-run Wide Wide own g run (λ (r : Record). startRule e k r (r .phase)) (λ r w. start-wide e r w k)
+  change-wide c (sound run k) l a free result = back-run Wide Wide own g run (λ (r : Record). soundRule e k r (r .phase)) (λ r w. sound-wide e r w k)
+  change-wide c (profile n vs) l a free result = back-own Wide Wide own g (λ (r : Record). profileRule e n vs r (r .phase)) (λ r w. profile-wide e r w n vs l)
+  change-wide c (rsp run) l a free result = back-run Wide Wide own g run (λ (r : Record). rspRule r (r .phase)) (rsp-wide e)
+  change-wide c validateFirst l a free result = back-own Wide Wide own g (λ (r : Record). firstRule result r (r .phase)) (λ r w. first-wide e r w result)
+  change-wide c (validateSecond timer) l a free result = back-own Wide Wide own g (λ (r : Record). secondRule timer r (r .phase)) (λ r w. second-wide e r w timer)
 
-put-wide : (c : CarAddress) (m : RecordMessage) → LongRequest (forRecord m) → (a : ℕ) (exempt : Bool) (rs : List Record) → All Wide rs
-    → OnYes (λ (x : Change). All Wide (put c (x .place) (x .kept) rs)) (changeRule c m a (freePlaces rs) (firstResult exempt rs) (mine c rs))
+put-wide : (e : Edition) (c : CarAddress) (m : RecordMessage) → LongRequest (forRecord m) → (a : ℕ) (exempt : Bool) (rs : List Record) → All Wide rs
+    → OnYes (λ (x : Change). All Wide (put c (x .place) (x .kept) rs)) (changeRule e c m a (freePlaces rs) (firstResult exempt rs) (mine c rs))
 unfolding owned
-put-wide c m l a exempt rs g = all-change Wide c rs g (changeRule c m a (freePlaces rs) (firstResult exempt rs) (mine c rs)) (change-wide (mine c rs) (all-only Wide (holds c) rs g) c m l a (freePlaces rs) (firstResult exempt rs))
+put-wide e c m l a exempt rs g = all-change Wide c rs g (changeRule e c m a (freePlaces rs) (firstResult exempt rs) (mine c rs)) (change-wide e (mine c rs) (all-only Wide (holds c) rs g) c m l a (freePlaces rs) (firstResult exempt rs))
 
 -- ---- a tick and a pilot change at one record
 
@@ -168,12 +169,12 @@ turn-wide t r w = on-cond Wide (isHeld r) _ r (λ h. wide-phase _ r w) (λ h. w)
 -- ---- every call
 
 wide-next : (o : Shared) (i : Inner) (x : Call) → All Wide (i .records) → All Wide (next i (rule o i x) .records)
-wide-next o i x = always (All Wide) LongRequest
-    (λ c u. put-wide c)
+wide-next o i x = always (All Wide) LongRequest o
+    (λ c u. put-wide (o .config .edition) c)
     (λ b e. all-map Wide (tickRecord b e) (record-wide b e))
     (λ t. all-map Wide (toggledRecord t) (turn-wide t))
     (all-map Wide freed wide-freed)
-    o i x (meets-frame LongRequest (o .config) x (λ s room e. admitted-long (o .config) room s))
+    i x (meets-frame LongRequest (o .config) x (λ s room e. admitted-long (o .config .edition) (o .config) room s))
 
 pub step-wide : (s : Station) (x : Call) → All Wide (s .records) → All Wide (step s x .records)
 unfolding step
@@ -181,7 +182,7 @@ step-wide s x g = wide-next (shared s) (inner s) x g
 
 pub wide-free : (n : ℕ) → All Wide (replicate n freeRecord)
 unfolding freeRecord
-wide-free n = all-replicate Wide _ (wide-freed _ (wide-fresh _ _)) n
+wide-free n = all-replicate Wide _ (wide-freed _ (wide-fresh _ _ _)) n
 
 pub all-ordered : (rs : List Record) → All Wide rs → All Ordered rs
 all-ordered [] g = tt

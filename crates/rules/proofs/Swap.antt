@@ -7,6 +7,7 @@ use native.Mathlib.Omega.{arith}
 use lib.ListN.{length}
 use borrow.Author.Tests.{not-true}
 use Rattle.messages.specs.declared.CarAddress.{CarAddress}
+use Rattle.messages.specs.declared.Edition.{Edition}
 use Rattle.messages.specs.declared.RunId.{RunId}
 use Rattle.messages.specs.Table.{validateReq, slacMatchReq}
 use Rattle.messages.specs.Reading.{Checked, no, yes, check, readRules}
@@ -29,7 +30,8 @@ use Rattle.rules.specs.Demand3.{named, isCar, accepted, isTen, isKind, i
 use Rattle.ends.proofs.Logic.{split, clash, OnYes}
 use Rattle.rules.proofs.RecordLaws.{same-refl, same-eq, same-swap, Ready, takes, ready-takes, same-put, mine-put-other, length-put, free-put}
 use Rattle.rules.proofs.RuleLaws.{isAsk, isValidate, refusedTen, SameResult, change-ready, change-same}
-use Rattle.rules.proofs.ReceivedLaws.{isMatch, validatesIn, ReadAs, read-as}
+use Rattle.rules.proofs.ReceivedLaws.{isMatch, validatesIn, ReadAs}
+use Rattle.rules.proofs.EditionLaws.{read-in}
 use Rattle.rules.proofs.NearFrames.{ten-change}
 use Rattle.rules.proofs.Places.{Places, Moved, Like}
 
@@ -104,17 +106,17 @@ record Effect (o : Configuration) (st : State) (c : CarAddress) (m : Request) (r
 refuses : (o : Configuration) (st : State) (c : CarAddress) (m : Request) (rs : List Record) (n : ℕ) → ((qs : List Record) → mine c qs ≡ mine c rs → stateRule o st qs c m ≡ no n) → Effect o st c m rs
 refuses o st c m rs n h = record { change = no n; ready = tt; same = λ qs e k. h qs e }
 
-match-effect : (o : Configuration) (a : ℕ) (c : CarAddress) (run : RunId) (rs : List Record) (w : Checked (Unit {0})) → matchRule run (mine c rs) ≡ w
-    → accepted (outcomeOf (andThen w (λ (x : Unit {0}). yes (confirmed o (Joining joiningTime c run) (map freed rs) c run)))) ≡ false → Effect o (Matching a) c (matchReq run) rs
+match-effect : (o : Configuration) (a : ℕ) (c : CarAddress) (run : RunId) (x y : List ℕ) (rs : List Record) (w : Checked (Unit {0})) → matchRule run (mine c rs) ≡ w
+    → accepted (outcomeOf (andThen w (λ (v : Unit {0}). yes (confirmed o (Joining joiningTime c run) (map freed rs) c run x y)))) ≡ false → Effect o (Matching a) c (matchReq run x y) rs
 unfolding stateRule accepted
-match-effect o a c run rs (no n) e t = refuses o (Matching a) c (matchReq run) rs n (λ qs k. rw (k, e))
-match-effect o a c run rs (yes x) e t = clash true refl t
+match-effect o a c run x y rs (no n) e t = refuses o (Matching a) c (matchReq run x y) rs n (λ qs k. rw (k, e))
+match-effect o a c run x y rs (yes v) e t = clash true refl t
 
-again-effect : (o : Configuration) (l : ℕ) (d : CarAddress) (k : RunId) (c : CarAddress) (run : RunId) (rs : List Record) (b : Bool) → sameCar c d && sameRun run k ≡ b
-    → accepted (outcomeOf (check b 11 (yes (confirmed o (Joining l d k) rs c run)))) ≡ false → Effect o (Joining l d k) c (matchReq run) rs
+again-effect : (o : Configuration) (l : ℕ) (d : CarAddress) (k : RunId) (c : CarAddress) (run : RunId) (x y : List ℕ) (rs : List Record) (b : Bool) → sameCar c d && sameRun run k ≡ b
+    → accepted (outcomeOf (check b 11 (yes (confirmed o (Joining l d k) rs c run x y)))) ≡ false → Effect o (Joining l d k) c (matchReq run x y) rs
 unfolding stateRule accepted
-again-effect o l d k c run rs false e t = refuses o (Joining l d k) c (matchReq run) rs 11 (λ qs q. rw e)
-again-effect o l d k c run rs true e t = clash true refl t
+again-effect o l d k c run x y rs false e t = refuses o (Joining l d k) c (matchReq run x y) rs 11 (λ qs q. rw e)
+again-effect o l d k c run x y rs true e t = clash true refl t
 
 -- what a row asks of a request and its outcome: no accepted match or validate request, and not refused with 10
 abbrev calm : Request → Outcome → Type 0
@@ -132,19 +134,19 @@ unfolding stateRule
 effect o Unmatched c m rs h = refuses o Unmatched c m rs 8 (λ qs e. refl)
 effect o (Matching a) c (forRecord m) rs h =
     let x : ℕ = firstResult (o .exempt) rs in
-    let w : Checked Change = changeRule c m a (freePlaces rs) x (mine c rs) in
+    let w : Checked Change = changeRule (o .edition) c m a (freePlaces rs) x (mine c rs) in
     let f : isAsk m && refusedTen w ≡ false = rw (sym (ten-change o (Matching a) rs c w) ∙ h .1 .1) (and-false (isAsk m)) in
     record {
       change = w;
-      ready = change-ready c m a (freePlaces rs) x (mine c rs);
+      ready = change-ready (o .edition) c m a (freePlaces rs) x (mine c rs);
       same = λ qs e k. rw (
         e,
-        ← change-same c m a (freePlaces rs) (freePlaces qs) x (firstResult (o .exempt) qs) (mine c rs) f (needed-on w (freePlaces qs) k) (refused-same o (Matching a) c m rs x (firstResult (o .exempt) qs) w (h .1 .0)),
+        ← change-same (o .edition) c m a (freePlaces rs) (freePlaces qs) x (firstResult (o .exempt) qs) (mine c rs) f (needed-on w (freePlaces qs) k) (refused-same o (Matching a) c m rs x (firstResult (o .exempt) qs) w (h .1 .0)),
       );
     }
-effect o (Matching a) c (matchReq run) rs h = match-effect o a c run rs (matchRule run (mine c rs)) refl (h .0)
+effect o (Matching a) c (matchReq run x y) rs h = match-effect o a c run x y rs (matchRule run (mine c rs)) refl (h .0)
 effect o (Joining l d k) c (forRecord m) rs h = refuses o (Joining l d k) c (forRecord m) rs 8 (λ qs e. refl)
-effect o (Joining l d k) c (matchReq run) rs h = again-effect o l d k c run rs (sameCar c d && sameRun run k) refl (h .0)
+effect o (Joining l d k) c (matchReq run x y) rs h = again-effect o l d k c run x y rs (sameCar c d && sameRun run k) refl (h .0)
 effect o Matched c m rs h = refuses o Matched c m rs 8 (λ qs e. refl)
 
 -- ---- two frames
@@ -197,8 +199,8 @@ swap-state o st rs c d m l f h₁ h₂ =
     }
 
 -- two calls that do not name the same car
-abbrev pub Apart : Call → Call → Type 0
-Apart x y = (c : CarAddress) → isCar c (named x) ≡ true → isCar c (named y) ≡ false
+abbrev pub Apart : Edition → Call → Call → Type 0
+Apart e x y = (c : CarAddress) → isCar c (named e x) ≡ true → isCar c (named e y) ≡ false
 
 swap-frame : (o : Configuration) (i : Inner) (w v : Checked Received) → OnYes (λ (y : Received). OnYes (λ (z : Received). sameCar (y .car) (z .car) ≡ false) v) w
     → OnYes (λ (y : Received). calm (y .request) (outcomeOf (frameRule o i w))) w → OnYes (λ (z : Received). calm (z .request) (outcomeOf (frameRule o (next i (frameRule o i w)) v))) v
@@ -208,21 +210,21 @@ swap-frame o i (yes y) (no n) f h g = record { first = refl; second = refl; move
 swap-frame o i (yes y) (yes z) f h g = swap-state o (i .state) (i .records) (y .car) (z .car) (y .request) (z .request) f h g
 
 -- the words of the demand, said of what was received
-apart-received : (s s′ : List ℕ) (room room′ : ℕ) → Apart (frame s room) (frame s′ room′) → (w v : Checked Received) → OnYes (ReadAs (readRules s)) w → OnYes (ReadAs (readRules s′)) v
+apart-received : (e : Edition) (s s′ : List ℕ) (room room′ : ℕ) → Apart e (frame s room) (frame s′ room′) → (w v : Checked Received) → OnYes (ReadAs (readRules e s)) w → OnYes (ReadAs (readRules e s′)) v
     → OnYes (λ (y : Received). OnYes (λ (z : Received). sameCar (y .car) (z .car) ≡ false) v) w
 unfolding named isCar
-apart-received s s′ room room′ f (no n) v t t′ = tt
-apart-received s s′ room room′ f (yes y) (no n) t t′ = tt
-apart-received s s′ room room′ f (yes y) (yes z) t t′ =
-    let g : isCar (y .car) (named (frame s′ room′)) ≡ false = f (y .car) (rw (t .car) (same-refl (y .car))) in
+apart-received e s s′ room room′ f (no n) v t t′ = tt
+apart-received e s s′ room room′ f (yes y) (no n) t t′ = tt
+apart-received e s s′ room room′ f (yes y) (yes z) t t′ =
+    let g : isCar (y .car) (named e (frame s′ room′)) ≡ false = f (y .car) (rw (t .car) (same-refl (y .car))) in
     rw (t′ .car) at g
 
-calm-received : (s : List ℕ) (room : ℕ) (u : Outcome) (w : Checked Received) → OnYes (ReadAs (readRules s)) w → moves (record { call = frame s room; gave = u }) ≡ true → OnYes (λ (y : Received). calm (y .request) u) w
+calm-received : (e : Edition) (s : List ℕ) (room : ℕ) (u : Outcome) (w : Checked Received) → OnYes (ReadAs (readRules e s)) w → moves e (record { call = frame s room; gave = u }) ≡ true → OnYes (λ (y : Received). calm (y .request) u) w
 unfolding moves isFrame isAccepted isKind
-calm-received s room u (no n) t h = tt
-calm-received s room u (yes y) t h =
-    let a : Bool = isKind slacMatchReq (frame s room) && accepted u in
-    let b : Bool = isKind validateReq (frame s room) && accepted u in
+calm-received e s room u (no n) t h = tt
+calm-received e s room u (yes y) t h =
+    let a : Bool = isKind e slacMatchReq (frame s room) && accepted u in
+    let b : Bool = isKind e validateReq (frame s room) && accepted u in
     let ab : not a && not b ≡ true = and-left (not a && not b) (not (isTen u)) h in
     let p : a ≡ false = not-true a (and-left (not a) (not b) ab) in
     let q : b ≡ false = not-true b (and-right (not a) (not b) ab) in
@@ -235,20 +237,20 @@ pub record Swapped (s : Station) (x y : Call) : Type 0 where
   pub second : outcome (step s x) y ≡ outcome s y
   pub like : Like (step (step s x) y) (step (step s y) x)
 
-pub swap : (s : Station) (x y : Call) → Apart x y → moves (record { call = x; gave = outcome s x }) ≡ true → moves (record { call = y; gave = outcome (step s x) y }) ≡ true → Swapped s x y
+pub swap : (e : Edition) (s : Station) (x y : Call) → s .config .edition ≡ e → Apart e x y → moves e (record { call = x; gave = outcome s x }) ≡ true → moves e (record { call = y; gave = outcome (step s x) y }) ≡ true → Swapped s x y
 unfolding outcome step sharedStep rule moves isFrame
-swap s (frame x n) (frame y k) f h g =
+swap e s (frame x n) (frame y k) q f h g =
     let o : Configuration = s .config in
-    let w : Checked Received = admitted o n (received x) in
-    let v : Checked Received = admitted o k (received y) in
+    let w : Checked Received = admitted o n (received (o .edition) x) in
+    let v : Checked Received = admitted o k (received (o .edition) y) in
     let W : Crossed (inner s) (frameRule o (inner s) w) (frameRule o (next (inner s) (frameRule o (inner s) w)) v) (frameRule o (inner s) v) (frameRule o (next (inner s) (frameRule o (inner s) v)) w) =
-    swap-frame o (inner s) w v (apart-received x y n k f w v (read-as o n x) (read-as o k y)) (calm-received x n _ w (read-as o n x) h) (calm-received y k _ v (read-as o k y) g) in
+    swap-frame o (inner s) w v (apart-received e x y n k f w v (read-in e o q n x) (read-in e o q k y)) (calm-received e x n _ w (read-in e o q n x) h) (calm-received e y k _ v (read-in e o q k y) g) in
     record { first = W .first; second = W .second; like = record { places = W .moved .places; states = W .moved .states; shares = refl } }
-swap s (frame x n) (tick t m) f h g = clash true refl (sym g)
-swap s (frame x n) (pilot p t) f h g = clash true refl (sym g)
-swap s (frame x n) terminate f h g = clash true refl (sym g)
-swap s (frame x n) linkUp f h g = clash true refl (sym g)
-swap s (tick t n) y f h g = clash true refl (sym h)
-swap s (pilot p t) y f h g = clash true refl (sym h)
-swap s terminate y f h g = clash true refl (sym h)
-swap s linkUp y f h g = clash true refl (sym h)
+swap e s (frame x n) (tick t m) q f h g = clash true refl (sym g)
+swap e s (frame x n) (pilot p t) q f h g = clash true refl (sym g)
+swap e s (frame x n) terminate q f h g = clash true refl (sym g)
+swap e s (frame x n) linkUp q f h g = clash true refl (sym g)
+swap e s (tick t n) y q f h g = clash true refl (sym h)
+swap e s (pilot p t) y q f h g = clash true refl (sym h)
+swap e s terminate y q f h g = clash true refl (sym h)
+swap e s linkUp y q f h g = clash true refl (sym h)

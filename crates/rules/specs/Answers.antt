@@ -3,6 +3,7 @@ use Prim.Native.Nat.{ℕ}
 use mathlib.Core.Path.{_≡_}
 use mathlib.Core.Bool.{Bool}
 use mathlib.Core.List.{List}
+use Rattle.messages.specs.declared.Edition.{Edition}
 use Rattle.messages.specs.declared.ModemAddress.{ModemAddress}
 use Rattle.messages.specs.declared.Nid.{Nid}
 use Rattle.messages.specs.declared.Nmk.{Nmk}
@@ -55,7 +56,7 @@ pub record Answers (s : Station) (x : Call) (entry exit : List ℕ) (r : Stepped
   pub kept : Invariant (r .station)
 
 -- the whole promise of configuring
-pub record Configures (address : StationAddress) (modem : ModemAddress) (nid : Nid) (nmk : Nmk) (exempt : Bool) (r : Configured) : Type 0 where
-  pub station : r .station ≡ configured address modem nid nmk exempt
+pub record Configures (address : StationAddress) (modem : ModemAddress) (nid : Nid) (nmk : Nmk) (exempt : Bool) (edition : Edition) (r : Configured) : Type 0 where
+  pub station : r .station ≡ configured address modem nid nmk exempt edition
   pub answer : answerOf (r .answer) ≡ summary (configuring address modem nid)
   pub kept : Invariant (r .station)

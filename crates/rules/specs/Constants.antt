@@ -1,7 +1,10 @@
--- The station's times, in milliseconds, and its counts, with their names in ISO 15118-3 (tables 3 and A.1).
+-- The station's times, in milliseconds, and its counts, with their names in ISO 15118-3 (tables 3 and A.1); where SAE J2931/4 has its own, by edition and by whether the try is a later one.
 use Prim.Native.Nat.{ℕ, _*_}
-use Rattle.ends.specs.Constants.{responseTime}
-use Rattle.messages.specs.Table.{attenCharInd, writtenSize}
+use mathlib.Core.Bool.{Bool, true, false}
+use Rattle.ends.specs.Constants.{responseTime, soundCount}
+use Rattle.messages.specs.declared.Edition.{Edition}
+use Rattle.messages.specs.declared.Edition.the-variants.{Iso, Sae}
+use Rattle.messages.specs.Table.{attenCharInd, groupCount, isoAttempt, firstAttempt, laterAttempt, writtenSize}
 
 -- admission's time: the greatest TT_EVSE_SLAC_init
 abbrev pub admissionTime : ℕ
@@ -11,9 +14,23 @@ admissionTime = 50000
 abbrev pub askedTime : ℕ
 askedTime = 400
 
--- Sounding's time: TT_EVSE_match_MNBC
-abbrev pub soundingTime : ℕ
-soundingTime = 600
+-- Sounding's time: TT_EVSE_match_MNBC; SAE: "200 in a first try and 1,000 in a later one"
+abbrev pub soundingTime : Edition → Bool → ℕ
+soundingTime Iso later = 600
+soundingTime Sae false = 200
+soundingTime Sae true = 1000
+
+-- how many sounds there are, and at how many profiles Sounding closes: C_EV_match_MNBC; SAE: "at 8 or 16"
+abbrev pub soundsPerTry : Edition → Bool → ℕ
+soundsPerTry Iso later = soundCount
+soundsPerTry Sae false = 8
+soundsPerTry Sae true = 16
+
+-- NUM_SOUNDS and Time_Out: "that try's pair"
+abbrev pub pairOf : Edition → Bool → ℕ
+pairOf Iso later = isoAttempt
+pairOf Sae false = firstAttempt
+pairOf Sae true = laterAttempt
 
 -- Reported's time: TT_match_response
 abbrev pub reportedTime : ℕ
@@ -60,6 +77,6 @@ notRequiredResult = 4
 abbrev pub recordCount : ℕ
 recordCount = 16
 
--- the least output of a frame or tick call: a report of every record
+-- the least output of a frame or tick call: a report of every record, each with all group values
 abbrev pub leastOutput : ℕ
-leastOutput = writtenSize attenCharInd * recordCount
+leastOutput = writtenSize attenCharInd groupCount * recordCount

@@ -5,8 +5,9 @@ use mathlib.Core.Bool.{true, false}
 use mathlib.Core.List.{List, [], _∷_}
 use lib.ListN.{length, replicate}
 use Rattle.messages.specs.declared.CarAddress.{CarAddress}
-use Rattle.messages.specs.Table.{Message, slacParmReq, startAttenCharInd, attenCharRsp, validateReq, slacMatchReq, attenProfileInd, broadcast, groupCount}
-use Rattle.messages.specs.Reading.{no}
+use Rattle.messages.specs.declared.Edition.the-variants.{Iso}
+use Rattle.messages.specs.Table.{Message, slacParmReq, startAttenCharInd, attenCharRsp, validateReq, slacMatchReq, attenProfileInd, broadcast, groupCount, isoAttempt}
+use Rattle.messages.specs.Reading.{no, noId}
 use Rattle.messages.specs.Writing as writing
 use Rattle.rules.specs.declared.Pilot.the-variants.{B}
 use Rattle.rules.specs.declared.Station.{Station}
@@ -21,7 +22,7 @@ use Rattle.rules.specs.Demand3.{without, accepted, anyFailure, ends, rep
 
 -- a well configured station
 abbrev station : Station
-station = configured (record { 0 = 0x0200000000AA }) (record { 0 = 0x0200000000BB }) (record { 0 = 5 }) (record { 0 = 1; 1 = 2 }) false
+station = configured (record { 0 = 0x0200000000AA }) (record { 0 = 0x0200000000BB }) (record { 0 = 5 }) (record { 0 = 1; 1 = 2 }) false Iso
 
 -- some cars
 abbrev car : ℕ → CarAddress
@@ -33,22 +34,22 @@ sent m = frame (writing.frame m) leastOutput
 
 -- PARM.REQ, START, PROFILE, RSP and MATCH.REQ of car n, in run 1, and its first VALIDATE.REQ
 abbrev request : ℕ → Call
-request n = sent (record { kind = slacParmReq; dst = broadcast; src = car n .0; values = (1, tt) })
+request n = sent (record { edition = Iso; kind = slacParmReq; count = 0; dst = broadcast; src = car n .0; values = (1, tt) })
 
 abbrev start : ℕ → Call
-start n = sent (record { kind = startAttenCharInd; dst = broadcast; src = car n .0; values = (1, tt) })
+start n = sent (record { edition = Iso; kind = startAttenCharInd; count = 0; dst = broadcast; src = car n .0; values = (isoAttempt, (1, tt)) })
 
 abbrev profile : ℕ → Call
-profile n = sent (record { kind = attenProfileInd; dst = 0x0200000000AA; src = 0x0200000000BB; values = (car n .0, (replicate groupCount 10, tt)) })
+profile n = sent (record { edition = Iso; kind = attenProfileInd; count = groupCount; dst = 0x0200000000AA; src = 0x0200000000BB; values = (car n .0, (replicate groupCount 10, tt)) })
 
 abbrev response : ℕ → Call
-response n = sent (record { kind = attenCharRsp; dst = 0x0200000000AA; src = car n .0; values = (1, tt) })
+response n = sent (record { edition = Iso; kind = attenCharRsp; count = 0; dst = 0x0200000000AA; src = car n .0; values = (1, (noId, (noId, tt))) })
 
 abbrev matching : ℕ → Call
-matching n = sent (record { kind = slacMatchReq; dst = 0x0200000000AA; src = car n .0; values = (1, tt) })
+matching n = sent (record { edition = Iso; kind = slacMatchReq; count = 0; dst = 0x0200000000AA; src = car n .0; values = (noId, (noId, (1, tt))) })
 
 abbrev validate : ℕ → Call
-validate n = sent (record { kind = validateReq; dst = 0x0200000000AA; src = car n .0; values = (0, tt) })
+validate n = sent (record { edition = Iso; kind = validateReq; count = 0; dst = 0x0200000000AA; src = car n .0; values = (0, tt) })
 
 -- requests of n other cars
 abbrev others : ℕ → List Call
@@ -81,22 +82,22 @@ busy = pilot B 0 ∷ request 1 ∷ request 2 ∷ start 1 ∷ start 2 ∷ profile
 pub record Exceptions : Type 0 where
   -- the comparison begins and goes on, and car 1 is sent a reply
   pub begins : isPlugIn station (pilot B 0) ≡ true
-  pub goes-on : ends (car 1) (request 2) (outcome (step station (pilot B 0)) (request 2)) ≡ false
+  pub goes-on : ends Iso (car 1) (request 2) (outcome (step station (pilot B 0)) (request 2)) ≡ false
   pub replied : length (replies (car 1) station two) ≡ 1
-  pub shorter : length (without (car 1) two) ≡ 2
+  pub shorter : length (without Iso (car 1) two) ≡ 2
   -- refusal numbers may differ: 9 with the neighbour, 8 without
   pub nine : outcome (after station late) (request 1) ≡ no 9
-  pub eight : outcome (after station (without (car 1) late)) (request 1) ≡ no 8
+  pub eight : outcome (after station (without Iso (car 1) late)) (request 1) ≡ no 8
   -- refused with 10: answered without the neighbours
   pub ten : outcome (after station full) (request 1) ≡ no 10
-  pub answered : accepted (outcome (after station (without (car 1) full)) (request 1)) ≡ true
+  pub answered : accepted (outcome (after station (without Iso (car 1) full)) (request 1)) ≡ true
   -- another car's accepted match request frees car 1's record
   pub freed : length (mine (car 1) (after station match .records)) ≡ 0
-  pub kept : length (mine (car 1) (after station (without (car 1) match) .records)) ≡ 1
+  pub kept : length (mine (car 1) (after station (without Iso (car 1) match) .records)) ≡ 1
   -- another car's accepted validate request: car 1's own is then answered 03, and 01 without
   pub failed : anyFailure (framesOf (outcome (after station busy) (validate 1))) ≡ true
-  pub made-ready : accepted (outcome (after station (without (car 1) busy)) (validate 1)) ≡ true
-  pub not-failed : anyFailure (framesOf (outcome (after station (without (car 1) busy)) (validate 1))) ≡ false
+  pub made-ready : accepted (outcome (after station (without Iso (car 1) busy)) (validate 1)) ≡ true
+  pub not-failed : anyFailure (framesOf (outcome (after station (without Iso (car 1) busy)) (validate 1))) ≡ false
   -- in a row, refused with 10: whoever comes first has the last record
   pub first-asks : outcome (step (after station (pilot B 0 ∷ others (recordCount - 1))) (request 2)) (request 1) ≡ no 10
   pub second-asks : accepted (outcome (after station (pilot B 0 ∷ others (recordCount - 1))) (request 1)) ≡ true

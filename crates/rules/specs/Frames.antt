@@ -4,6 +4,8 @@ use mathlib.Core.Bool.{Bool, true, false, not, cond, _&&_}
 use mathlib.Core.List.{List, [], _∷_, map}
 use lib.Dec.{eqb, leb, ltb}
 use Rattle.messages.specs.declared.CarAddress.{CarAddress}
+use Rattle.messages.specs.declared.Edition.{Edition}
+use Rattle.messages.specs.declared.Edition.the-variants.{Iso, Sae}
 use Rattle.messages.specs.declared.RunId.{RunId}
 use Rattle.messages.specs.Reading.{Checked, no, yes, check}
 use Rattle.rules.specs.declared.Configuration.{Configuration}
@@ -13,10 +15,10 @@ use Rattle.rules.specs.declared.Phase.the-variants.{Asked, Sounding, Rep
 use Rattle.rules.specs.declared.Record.{Record}
 use Rattle.rules.specs.declared.State.{State}
 use Rattle.rules.specs.declared.State.the-variants.{Unmatched, Matching, Joining, Matched}
-use Rattle.ends.specs.Constants.{joiningTime, retryCount, soundCount}
-use Rattle.rules.specs.Constants.{soundingTime, awaitingTime, readyTime, windowStep, readyResult, leastOutput}
+use Rattle.ends.specs.Constants.{joiningTime, retryCount}
+use Rattle.rules.specs.Constants.{soundingTime, soundsPerTry, pairOf, awaitingTime, readyTime, windowStep, readyResult, leastOutput}
 use Rattle.ends.specs.Outcomes.{andThen}
-use Rattle.rules.specs.Records.{sameCar, sameRun, isEmpty, mine, freePlaces, owned, freed, update, insert, fresh, inPhase, reported, withHeard, counted}
+use Rattle.rules.specs.Records.{sameCar, sameRun, isEmpty, mine, freePlaces, owned, freed, update, insert, fresh, inPhase, reported, withHeard, fitsGroups, groupsKept, counted}
 use Rattle.rules.specs.Sounds.{isIn, marked}
 use Rattle.rules.specs.Replies.{Reply, parmCnf, matchCnf, confirmation, reportOf, framesTo}
 use Rattle.rules.specs.Received.{RecordMessage, parmReq, start, sound, profile, rsp, validateFirst, validateSecond, Request, forRecord, matchReq, Received, isForUs}
@@ -32,43 +34,44 @@ pub record Kept : Type 0 where
 abbrev pub keeps : Record → List Reply → Checked Kept
 keeps r ts = yes (record { kept = r; replies = ts })
 
--- ---- at one record: 12 and 13
+-- ---- at one record, in an edition: 12, then 13, 22 or 23
 
--- START: "Asked becomes Sounding, 600. In Sounding: accepted, no change."
-unfoldable pub startRule : Record → Phase → Checked Kept
-startRule r (Asked t) = keeps (inPhase (Sounding soundingTime) r) []
-startRule r (Sounding t) = keeps r []
-startRule r (Reported t n) = no 12
-startRule r (Awaiting t) = no 12
-startRule r (Ready t) = no 12
-startRule r (Counting t n b) = no 12
-startRule r (Success t) = no 12
+-- START: "Asked becomes Sounding, 600. In Sounding: accepted, no change." "With the other try's pair: 22."
+unfoldable pub startRule : Edition → ℕ → Record → Phase → Checked Kept
+startRule e a r (Asked t) = check (eqb a (pairOf e (r .later))) 22 (keeps (inPhase (Sounding (soundingTime e (r .later))) r) [])
+startRule e a r (Sounding t) = check (eqb a (pairOf e (r .later))) 22 (keeps r [])
+startRule e a r (Reported t n) = no 12
+startRule e a r (Awaiting t) = no 12
+startRule e a r (Ready t) = no 12
+startRule e a r (Counting t n b) = no 12
+startRule e a r (Success t) = no 12
 
 -- SOUND in Sounding: "count marked heard"
-unfoldable pub soundRule : ℕ → Record → Phase → Checked Kept
-soundRule k r (Asked t) = no 12
-soundRule k r (Sounding t) =
-    check (ltb k soundCount) 13
+unfoldable pub soundRule : Edition → ℕ → Record → Phase → Checked Kept
+soundRule e k r (Asked t) = no 12
+soundRule e k r (Sounding t) =
+    check (ltb k (soundsPerTry e (r .later))) 13
     (check (not (isIn k (r .heard))) 13
     (keeps (withHeard (marked k (r .heard)) r) []))
-soundRule k r (Reported t n) = no 12
-soundRule k r (Awaiting t) = no 12
-soundRule k r (Ready t) = no 12
-soundRule k r (Counting t n b) = no 12
-soundRule k r (Success t) = no 12
+soundRule e k r (Reported t n) = no 12
+soundRule e k r (Awaiting t) = no 12
+soundRule e k r (Ready t) = no 12
+soundRule e k r (Counting t n b) = no 12
+soundRule e k r (Success t) = no 12
 
--- PROFILE in Sounding: "values added, one more counted. At ten: report sent, Reported, 200, two retries."
-unfoldable pub profileRule : List ℕ → Record → Phase → Checked Kept
-profileRule vs r (Asked t) = no 12
-profileRule vs r (Sounding t) =
-    cond (eqb (r .profiles + 1) soundCount)
-    (keeps (reported retryCount (counted vs r)) (reportOf (counted vs r) ∷ []))
-    (keeps (counted vs r) [])
-profileRule vs r (Reported t n) = no 12
-profileRule vs r (Awaiting t) = no 12
-profileRule vs r (Ready t) = no 12
-profileRule vs r (Counting t n b) = no 12
-profileRule vs r (Success t) = no 12
+-- PROFILE in Sounding: 23, then "values added, one more counted. At ten: report sent, Reported, 200, two retries."
+unfoldable pub profileRule : Edition → ℕ → List ℕ → Record → Phase → Checked Kept
+profileRule e g vs r (Asked t) = no 12
+profileRule e g vs r (Sounding t) =
+    check (fitsGroups g (r .groups)) 23
+    (cond (eqb (r .profiles + 1) (soundsPerTry e (r .later)))
+    (keeps (reported retryCount (counted (groupsKept e g) vs r)) (reportOf (counted (groupsKept e g) vs r) ∷ []))
+    (keeps (counted (groupsKept e g) vs r) []))
+profileRule e g vs r (Reported t n) = no 12
+profileRule e g vs r (Awaiting t) = no 12
+profileRule e g vs r (Ready t) = no 12
+profileRule e g vs r (Counting t n b) = no 12
+profileRule e g vs r (Success t) = no 12
 
 -- RSP in Reported: "Awaiting, 10,000"
 unfoldable pub rspRule : Record → Phase → Checked Kept
@@ -140,27 +143,33 @@ pub record Change : Type 0 where
 abbrev pub putBack : Checked Kept → Checked Change
 putBack x = andThen x (λ (k : Kept). yes (record { place = ownPlace; kept = k .kept; replies = k .replies }))
 
--- PARM.REQ: the record anew, "PARM.CNF sent"
-unfoldable pub requested : CarAddress → RunId → Place → Change
-requested c run p = record { place = p; kept = fresh c run; replies = parmCnf run ∷ [] }
+-- "a PARM.REQ that takes a free record makes a first try, one that restarts a held record a later one"; with ISO always a first
+abbrev pub isLater : Edition → Place → Bool
+isLater Iso p = false
+isLater Sae ownPlace = true
+isLater Sae freePlace = false
+
+-- PARM.REQ: the record anew, "PARM.CNF sent", in a first or a later try
+unfoldable pub requested : Bool → CarAddress → RunId → Place → Change
+requested later c run p = record { place = p; kept = fresh later c run; replies = parmCnf later run ∷ [] }
 
 -- PARM.REQ: "a car with a record restarts it, even after admission closed. Else 9, 10, or the first free record."
-unfoldable pub parmRule : CarAddress → RunId → ℕ → ℕ → List Record → Checked Change
-parmRule c run admission free (r ∷ rs) = yes (requested c run ownPlace)
-parmRule c run admission free [] =
+unfoldable pub parmRule : Edition → CarAddress → RunId → ℕ → ℕ → List Record → Checked Change
+parmRule e c run admission free (r ∷ rs) = yes (requested (isLater e ownPlace) c run ownPlace)
+parmRule e c run admission free [] =
     check (ltb 0 admission) 9
     (check (ltb 0 free) 10
-    (yes (requested c run freePlace)))
+    (yes (requested (isLater e freePlace) c run freePlace)))
 
--- each message at car c's own records, a PARM.REQ with an empty run at none, with admission's time left, the number of free places, and what a first VALIDATE.REQ is answered
-unfoldable pub changeRule : CarAddress → RecordMessage → ℕ → ℕ → ℕ → List Record → Checked Change
-changeRule c (parmReq run) admission free result own = check (not (isEmpty run)) 21 (parmRule c run admission free own)
-changeRule c (start run) admission free result own = putBack (atRun run own (λ (r : Record). startRule r (r .phase)))
-changeRule c (sound run k) admission free result own = putBack (atRun run own (λ (r : Record). soundRule k r (r .phase)))
-changeRule c (profile vs) admission free result own = putBack (atOwn own (λ (r : Record). profileRule vs r (r .phase)))
-changeRule c (rsp run) admission free result own = putBack (atRun run own (λ (r : Record). rspRule r (r .phase)))
-changeRule c validateFirst admission free result own = putBack (atOwn own (λ (r : Record). firstRule result r (r .phase)))
-changeRule c (validateSecond timer) admission free result own = putBack (atOwn own (λ (r : Record). secondRule timer r (r .phase)))
+-- in an edition, each message at car c's own records, a PARM.REQ with an empty run at none, with admission's time left, the number of free places, and what a first VALIDATE.REQ is answered
+unfoldable pub changeRule : Edition → CarAddress → RecordMessage → ℕ → ℕ → ℕ → List Record → Checked Change
+changeRule e c (parmReq run) admission free result own = check (not (isEmpty run)) 21 (parmRule e c run admission free own)
+changeRule e c (start run a) admission free result own = putBack (atRun run own (λ (r : Record). startRule e a r (r .phase)))
+changeRule e c (sound run k) admission free result own = putBack (atRun run own (λ (r : Record). soundRule e k r (r .phase)))
+changeRule e c (profile g vs) admission free result own = putBack (atOwn own (λ (r : Record). profileRule e g vs r (r .phase)))
+changeRule e c (rsp run) admission free result own = putBack (atRun run own (λ (r : Record). rspRule r (r .phase)))
+changeRule e c validateFirst admission free result own = putBack (atOwn own (λ (r : Record). firstRule result r (r .phase)))
+changeRule e c (validateSecond timer) admission free result own = putBack (atOwn own (λ (r : Record). secondRule timer r (r .phase)))
 
 -- MATCH.REQ "in Awaiting" and in success: 11, then 12
 unfoldable pub matchRule : RunId → List Record → Checked (Unit {0})
@@ -177,21 +186,21 @@ put c freePlace r rs = insert (owned c r) rs
 abbrev pub changed : Configuration → State → List Record → CarAddress → Change → Done
 changed o st rs c x = done st (put c (x .place) (x .kept) rs) (framesTo o c (x .replies)) Nothing
 
--- "MATCH.CNF sent"
-abbrev pub confirmed : Configuration → State → List Record → CarAddress → RunId → Done
-confirmed o st rs c run = done st rs (framesTo o c (matchCnf run ∷ [])) Nothing
+-- "MATCH.CNF sent", with "the two IDs of the request that it answers"
+abbrev pub confirmed : Configuration → State → List Record → CarAddress → RunId → List ℕ → List ℕ → Done
+confirmed o st rs c run a b = done st rs (framesTo o c (matchCnf run a b ∷ [])) Nothing
 
 -- "Matching takes all; Joining takes MATCH.REQ only; else 8"
 unfoldable pub stateRule : Configuration → State → List Record → CarAddress → Request → Checked Done
 stateRule o Unmatched rs c m = no 8
-stateRule o (Matching a) rs c (forRecord m) =
-    andThen (changeRule c m a (freePlaces rs) (firstResult (o .exempt) rs) (mine c rs))
-    (λ (x : Change). yes (changed o (Matching a) rs c x))
-stateRule o (Matching a) rs c (matchReq run) =
+stateRule o (Matching t) rs c (forRecord m) =
+    andThen (changeRule (o .edition) c m t (freePlaces rs) (firstResult (o .exempt) rs) (mine c rs))
+    (λ (x : Change). yes (changed o (Matching t) rs c x))
+stateRule o (Matching t) rs c (matchReq run a b) =
     andThen (matchRule run (mine c rs))
-    (λ (x : Unit {0}). yes (confirmed o (Joining joiningTime c run) (map freed rs) c run))
+    (λ (x : Unit {0}). yes (confirmed o (Joining joiningTime c run) (map freed rs) c run a b))
 stateRule o (Joining l d k) rs c (forRecord m) = no 8
-stateRule o (Joining l d k) rs c (matchReq run) = check (sameCar c d && sameRun run k) 11 (yes (confirmed o (Joining l d k) rs c run))
+stateRule o (Joining l d k) rs c (matchReq run a b) = check (sameCar c d && sameRun run k) 11 (yes (confirmed o (Joining l d k) rs c run a b))
 stateRule o Matched rs c m = no 8
 
 -- 16, 15, reading, 17, 7: what no state and no record decides
@@ -201,6 +210,6 @@ admitted o room x =
     (check (leb leastOutput room) 15
     (andThen x (λ (y : Received). check (isForUs o y) 7 (yes y))))
 
--- then, by the state: 8, then 9 and 10, or 11, 12, 13
+-- then, by the state: 8, 21, then 9 and 10, or 11, 12, then 13, 22 or 23
 abbrev pub frameRule : Configuration → Inner → Checked Received → Checked Done
 frameRule o i x = andThen x (λ (y : Received). stateRule o (i .state) (i .records) (y .car) (y .request))

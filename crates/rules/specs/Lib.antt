@@ -11,6 +11,7 @@ pub mod Events
 pub mod Frames
 pub mod Ticks
 pub mod Rules
+pub mod FromOctets
 pub mod Invariant
 pub mod Reachable
 pub mod Answers

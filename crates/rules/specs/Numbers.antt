@@ -1,7 +1,9 @@
--- The numbers that stand for pilot states where no enum can: in scripts, and at the border to C.
+-- The numbers that stand for pilot states and editions where no enum can: in scripts, in logs, and at the border to C.
 use Prim.Native.Nat.{ℕ}
 use mathlib.Core.Bool.{cond}
 use lib.Dec.{eqb}
+use Rattle.messages.specs.declared.Edition.{Edition}
+use Rattle.messages.specs.declared.Edition.the-variants.{Iso, Sae}
 use Rattle.rules.specs.declared.Pilot.{Pilot}
 use Rattle.rules.specs.declared.Pilot.the-variants.{A, B, C, D, E, F}
 
@@ -13,3 +15,7 @@ pilotOf k =
     (cond (eqb k 2) C
     (cond (eqb k 3) D
     (cond (eqb k 4) E F))))
+
+-- an edition by its number: "0 ISO, 1 SAE", and ISO for any other
+unfoldable pub editionOf : ℕ → Edition
+editionOf k = cond (eqb k 1) Sae Iso

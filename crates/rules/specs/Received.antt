@@ -4,6 +4,7 @@ use mathlib.Core.Bool.{Bool, true, not, cond, _&&_}
 use mathlib.Core.List.{List}
 use lib.Dec.{eqb}
 use Rattle.messages.specs.declared.CarAddress.{CarAddress}
+use Rattle.messages.specs.declared.Edition.{Edition}
 use Rattle.messages.specs.declared.RunId.{RunId}
 use Rattle.messages.specs.Layout.{Values}
 use Rattle.messages.specs.Table.{Kind, slacParmReq, slacParmCnf, startAttenCharInd, attenCharInd, attenCharRsp, mnbcSoundInd, validateReq, validateCnf, slacMatchReq, slacMatchCnf, attenProfileInd, broadcast, payload, Message}
@@ -11,19 +12,20 @@ use Rattle.messages.specs.Reading.{Checked, no, yes, readRules}
 use Rattle.rules.specs.declared.Configuration.{Configuration}
 use Rattle.ends.specs.Outcomes.{andThen}
 
--- what concerns a car's record: PARM.REQ, START, SOUND with its count, PROFILE with its group values, RSP, the first VALIDATE.REQ, the second with its timer
+-- what concerns a car's record: PARM.REQ, START with its try's pair, SOUND with its count, PROFILE with its group count and values, RSP, the first VALIDATE.REQ, the second with its timer
 pub data RecordMessage : Type 0 where
-  parmReq start : RunId → RecordMessage
+  parmReq : RunId → RecordMessage
+  start : RunId → ℕ → RecordMessage
   sound : RunId → ℕ → RecordMessage
-  profile : List ℕ → RecordMessage
+  profile : ℕ → List ℕ → RecordMessage
   rsp : RunId → RecordMessage
   validateFirst : RecordMessage
   validateSecond : ℕ → RecordMessage
 
--- what a car's frame asks for: MATCH.REQ, or a change of its record
+-- what a car's frame asks for: MATCH.REQ with its two identifiers, or a change of its record
 pub data Request : Type 0 where
   forRecord : RecordMessage → Request
-  matchReq : RunId → Request
+  matchReq : RunId → List ℕ → List ℕ → Request
 
 -- a request, the car that the frame names, and the frame's destination and source
 pub record Received : Type 0 where
@@ -45,37 +47,37 @@ abbrev pub validation : ℕ → ℕ → RecordMessage
 validation d timer = cond (eqb d broadcast) (validateSecond timer) validateFirst
 
 -- by the message: 17 where "only a car receives" it
-abbrev pub receivedAs : (k : Kind) (d f : ℕ) → Values (payload k d f) → Checked Received
-receivedAs slacParmReq d f vs = fromCar f d f (forRecord (parmReq (runOf (vs .0))))
-receivedAs slacParmCnf d f vs = no 17
-receivedAs startAttenCharInd d f vs = fromCar f d f (forRecord (start (runOf (vs .0))))
-receivedAs attenCharInd d f vs = no 17
-receivedAs attenCharRsp d f vs = fromCar f d f (forRecord (rsp (runOf (vs .0))))
-receivedAs mnbcSoundInd d f vs = fromCar f d f (forRecord (sound (runOf (vs .1 .0)) (vs .0)))
-receivedAs validateReq d f vs = fromCar f d f (forRecord (validation d (vs .0)))
-receivedAs validateCnf d f vs = no 17
-receivedAs slacMatchReq d f vs = fromCar f d f (matchReq (runOf (vs .0)))
-receivedAs slacMatchCnf d f vs = no 17
-receivedAs attenProfileInd d f vs = fromCar (vs .0) d f (forRecord (profile (vs .1 .0)))
+abbrev pub receivedAs : (e : Edition) (k : Kind) (g d f : ℕ) → Values (payload e k g d f) → Checked Received
+receivedAs e slacParmReq g d f vs = fromCar f d f (forRecord (parmReq (runOf (vs .0))))
+receivedAs e slacParmCnf g d f vs = no 17
+receivedAs e startAttenCharInd g d f vs = fromCar f d f (forRecord (start (runOf (vs .1 .0)) (vs .0)))
+receivedAs e attenCharInd g d f vs = no 17
+receivedAs e attenCharRsp g d f vs = fromCar f d f (forRecord (rsp (runOf (vs .0))))
+receivedAs e mnbcSoundInd g d f vs = fromCar f d f (forRecord (sound (runOf (vs .1 .1 .0)) (vs .1 .0)))
+receivedAs e validateReq g d f vs = fromCar f d f (forRecord (validation d (vs .0)))
+receivedAs e validateCnf g d f vs = no 17
+receivedAs e slacMatchReq g d f vs = fromCar f d f (matchReq (runOf (vs .1 .1 .0)) (vs .0) (vs .1 .0))
+receivedAs e slacMatchCnf g d f vs = no 17
+receivedAs e attenProfileInd g d f vs = fromCar (vs .0) d f (forRecord (profile g (vs .1 .0)))
 
 -- of what reading gives
 abbrev pub receivedIn : Checked Message → Checked Received
-receivedIn x = andThen x (λ (m : Message). receivedAs (m .kind) (m .dst) (m .src) (m .values))
+receivedIn x = andThen x (λ (m : Message). receivedAs (m .edition) (m .kind) (m .count) (m .dst) (m .src) (m .values))
 
--- reading, 17
-unfoldable pub received : List ℕ → Checked Received
-received s = receivedIn (readRules s)
+-- reading in an edition, 17
+unfoldable pub received : Edition → List ℕ → Checked Received
+received e s = receivedIn (readRules e s)
 
 -- a unicast goes to us, and PROFILE comes from our modem
 abbrev pub toUs : Configuration → ℕ → ℕ → Request → Bool
 toUs o d f (forRecord (parmReq run)) = true
-toUs o d f (forRecord (start run)) = true
+toUs o d f (forRecord (start run a)) = true
 toUs o d f (forRecord (sound run k)) = true
-toUs o d f (forRecord (profile vs)) = eqb d (o .address .0) && eqb f (o .modem .0)
+toUs o d f (forRecord (profile g vs)) = eqb d (o .address .0) && eqb f (o .modem .0)
 toUs o d f (forRecord (rsp run)) = eqb d (o .address .0)
 toUs o d f (forRecord validateFirst) = eqb d (o .address .0)
 toUs o d f (forRecord (validateSecond timer)) = true
-toUs o d f (matchReq run) = eqb d (o .address .0)
+toUs o d f (matchReq run a b) = eqb d (o .address .0)
 
 -- neither "car is us" nor "our modem"
 abbrev pub notUs : Configuration → CarAddress → Bool

@@ -1,11 +1,12 @@
 -- The station's rules whole: what configuring gives, and what each call does and gives.
 use Prim.Native.Nat.{ℕ, _^_}
-use mathlib.Core.Bool.{Bool, not, cond, _&&_}
+use mathlib.Core.Bool.{Bool, false, not, cond, _&&_}
 use mathlib.Core.List.{List, [], _∷_}
 use lib.Dec.{eqb, ltb}
 use lib.ListN.{replicate}
 use lib.Count.{ones}
 use Rattle.messages.specs.declared.CarAddress.{CarAddress}
+use Rattle.messages.specs.declared.Edition.{Edition}
 use Rattle.messages.specs.declared.ModemAddress.{ModemAddress}
 use Rattle.messages.specs.declared.Nid.{Nid}
 use Rattle.messages.specs.declared.Nmk.{Nmk}
@@ -38,12 +39,12 @@ isGood a m nid = isUnicast (a .0) && isUnicast (m .0) && not (eqb (a .0) (m .0))
 
 -- a record that no car has held
 unfoldable pub freeRecord : Record
-freeRecord = freed (fresh (record { 0 = 0 }) (record { 0 = 0 }))
+freeRecord = freed (fresh false (record { 0 = 0 }) (record { 0 = 0 }))
 
--- the station that configuring gives, with "whether validation is not required": "Unmatched (at first)", pilot "A at first", reading "0 at first"
-unfoldable pub configured : StationAddress → ModemAddress → Nid → Nmk → Bool → Station
-configured a m nid nmk exempt = record {
-  config = record { good = isGood a m nid; address = a; modem = m; nid = nid; nmk = nmk; exempt = exempt };
+-- the station that configuring gives, with "whether validation is not required" and the edition: "Unmatched (at first)", pilot "A at first", reading "0 at first"
+unfoldable pub configured : StationAddress → ModemAddress → Nid → Nmk → Bool → Edition → Station
+configured a m nid nmk exempt e = record {
+  config = record { good = isGood a m nid; address = a; modem = m; nid = nid; nmk = nmk; exempt = exempt; edition = e };
   state = Unmatched;
   pilot = A;
   clock = 0;
@@ -58,7 +59,7 @@ configuring a m nid = check (isGood a m nid) 16 (yes (record { frames = []; indi
 
 -- what a call does to the state and the records, given the shared part
 unfoldable pub rule : Shared → Inner → Call → Checked Done
-rule o i (frame s room) = frameRule (o .config) i (admitted (o .config) room (received s))
+rule o i (frame s room) = frameRule (o .config) i (admitted (o .config) room (received (o .config .edition) s))
 rule o i (tick t room) = andThen (tickElapsed o t room) (λ (e : ℕ). yes (tickDone (o .config) (isB (o .pilot)) e (i .state) (i .records)))
 rule o i (pilot p t) = check (o .config .good) 16 (yes (pilotDone (plugged (o .pilot)) (plugged p) (turn (o .pilot) p) i))
 rule o i terminate = check (o .config .good) 16 (yes (ended i))

@@ -1,9 +1,12 @@
 // The station's types, configuring it, and the service query. What its calls do stands in specs/.
 
+pub mod tries;
+
 use ends::Answer;
 use ends::Indication;
 use ends::RESPONSE_TIME;
 use messages::CarAddress;
+use messages::Edition;
 use messages::GROUPS;
 use messages::GroupValues;
 use messages::ModemAddress;
@@ -20,7 +23,7 @@ ghost use Rattle.rules.specs.Records.{noSums, noSpread};
 ghost use Rattle.rules.specs.Rules as rules;
 ghost use Rattle.rules.specs.Rules.{isGood, freeRecord, toldOf, toldIn};
 ghost use Rattle.rules.specs.Answers.{untoldAs, Tells, Configures};
-ghost use Rattle.rules.specs.Numbers.{pilotOf};
+ghost use Rattle.rules.specs.Numbers.{pilotOf, editionOf};
 
 // Admission's time, in milliseconds as the others: the greatest TT_EVSE_SLAC_init.
 pub const ADMISSION_TIME: u32 = 50000;
@@ -30,6 +33,18 @@ pub const ASKED_TIME: u32 = 400;
 
 // Sounding's time: TT_EVSE_match_MNBC.
 pub const SOUNDING_TIME: u32 = 600;
+
+// The same in a first try of the SAE edition.
+pub const FIRST_SOUNDING_TIME: u32 = 200;
+
+// And in a later one.
+pub const LATER_SOUNDING_TIME: u32 = 1000;
+
+// How many sounds a first try of the SAE edition has.
+pub const FIRST_SOUNDS: u8 = 8;
+
+// And a later one.
+pub const LATER_SOUNDS: u8 = 16;
 
 // Reported's time: TT_match_response.
 pub const REPORTED_TIME: u32 = RESPONSE_TIME;
@@ -67,7 +82,7 @@ pub const NOT_REQUIRED_RESULT: u8 = 4;
 // How many runs are matched side by side: at least C_EVSE_match_parallel.
 pub const RECORDS: usize = 16;
 
-// How many octets a report takes.
+// How many octets a report takes at most.
 pub const REPORT_OCTETS: usize = 129;
 
 // How many octets a confirmation takes.
@@ -84,6 +99,7 @@ pub struct Configuration {
     pub nid: Nid,
     pub nmk: Nmk,
     pub exempt: bool,
+    pub edition: Edition,
 }
 
 // Where a car's run stands, with the time left; the last three are the steps of Validating.
@@ -106,7 +122,8 @@ pub struct Spread {
     pub greatest: GroupValues,
 }
 
-// One car's run: the sound counts heard are the ones of a set, the sums and the spread those of the profiles counted.
+// One car's run: the sound counts heard are the ones of a set, the sums and the spread those of the profiles counted; in the SAE edition
+// whether it is a later try, and the group count, 0 before a profile is counted.
 pub struct Record {
     pub car: CarAddress,
     pub run: RunId,
@@ -116,6 +133,8 @@ pub struct Record {
     pub profiles: u8,
     pub sums: GroupSums,
     pub spread: Spread,
+    pub later: bool,
+    pub groups: usize,
 }
 
 // The records of a station, side by side.
@@ -206,6 +225,17 @@ pub fn pilot_of(number: u64) -> Pilot
     Pilot::F
 }
 
+// An edition by its number: 1 for SAE, any other for ISO.
+pub fn edition_of(number: u64) -> Edition
+    ensures { λ r. ⌜ r ≡ editionOf number ⌝ }
+{
+    if number == 1 {
+        Edition::Sae
+    } else {
+        Edition::Iso
+    }
+}
+
 // Sums of no profile.
 pub fn no_sums() -> GroupSums
     ensures { λ r. ⌜ r ≡ noSums ⌝ }
@@ -238,6 +268,8 @@ fn free_record() -> Record
         profiles: 0,
         sums: sums,
         spread: spread,
+        later: false,
+        groups: 0,
     }
 }
 
@@ -266,8 +298,9 @@ pub fn configure(
     nid: Nid,
     nmk: Nmk,
     exempt: bool,
+    edition: Edition,
 ) -> Configured
-    ensures { λ r. ⌜ Configures address modem nid nmk exempt r ⌝ }
+    ensures { λ r. ⌜ Configures address modem nid nmk exempt edition r ⌝ }
 {
     let good = is_good(address, modem, nid);
     let records = free_records();
@@ -278,6 +311,7 @@ pub fn configure(
         nid: nid,
         nmk: nmk,
         exempt: exempt,
+        edition: edition,
     };
     let station = Station {
         config: config,
