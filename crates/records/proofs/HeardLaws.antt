@@ -10,11 +10,11 @@ use lib.Pow as pow
 use lib.Bits.{bitAnd, bitOr, and-block, and-mask, and-zero-r, or-add-and, or-shr, or-mod, or-zero-r}
 use lib.Count.{ones, ones-step, ones-cat}
 use borrow.Author.Tests.{eqb-true, eqb-false, eq-eqb, ne-eqb, ltb-true, ltb-false, lt-ltb, le-ltb}
-use Rattle.ends.specs.Constants.{soundCount}
 use Rattle.rules.specs.Sounds.{isIn, marked}
+use Rattle.messages.proofs.LayoutLaws.{and-left, and-right}
 use Rattle.ends.proofs.Logic.{split}
 use Rattle.rules.proofs.SoundLaws.{marked-or}
-use Rattle.records.specs.Heard.{marking}
+use Rattle.records.specs.Heard.{setSize, marking}
 
 -- ---- the test
 
@@ -47,24 +47,26 @@ or-same k h e =
     let a : bitAnd h (2 ^ k) ≡ 2 ^ k = digit k h ∙ rw (eqb-true (h / 2 ^ k % 2) 1 e) (omega arith) in
     omega (arith, or-add-and h (2 ^ k))
 
--- the code's bitwise or is the mark of a sound's count
-pub or-marking : (k h : ℕ) → k < soundCount → bitOr h (1 * 2 ^ k % 2 ^ 16) ≡ marking k h
+-- the code's bitwise or is the mark of a count that the set can hold
+pub or-marking : (k h : ℕ) → k < setSize → bitOr h (1 * 2 ^ k % 2 ^ 16) ≡ marking k h
 unfolding marking
 or-marking k h l =
     let p : 1 * 2 ^ k % 2 ^ 16 ≡ 2 ^ k = shl-exact {a = 1} 1 k 16 (omega arith) (omega arith) ∙ omega arith in
     ap (bitOr h) p ∙ split (isIn k h)
-    (λ e. or-same k h e ∙ sym (rw (lt-ltb k soundCount l, e)))
-    (λ e. sym (marked-or k h e) ∙ sym (rw (lt-ltb k soundCount l, e)))
+    (λ e. or-same k h e ∙ sym (rw (lt-ltb k setSize l, e)))
+    (λ e. sym (marked-or k h e) ∙ sym (rw (lt-ltb k setSize l, e)))
 
--- no sound's count: nothing is marked
-pub not-marking : (k h : ℕ) → soundCount ≤ k → h ≡ marking k h
+-- no such count: nothing is marked
+pub not-marking : (k h : ℕ) → setSize ≤ k → h ≡ marking k h
 unfolding marking
-not-marking k h l = sym (rw (le-ltb k soundCount l))
+not-marking k h l = sym (rw (le-ltb k setSize l))
 
--- a sound's count that is not in the set
-pub new-marking : (k h : ℕ) → ltb k soundCount && not (isIn k h) ≡ true → marking k h ≡ marked k h
+-- a count below n that is not in the set
+pub new-marking : (n k h : ℕ) → n ≤ setSize → ltb k n && not (isIn k h) ≡ true → marking k h ≡ marked k h
 unfolding marking
-new-marking k h e = rw e
+new-marking n k h l e =
+    let below : k < setSize = omega (arith, ltb-true k n (and-left (ltb k n) _ e)) in
+    rw (lt-ltb k setSize below, and-right (ltb k n) _ e)
 
 -- ---- what a marked set holds
 

@@ -5,8 +5,9 @@ use mathlib.Core.Bool.{Bool, true, false, not, _&&_}
 use mathlib.Core.List.{List, [], _∷_}
 use borrow.Author.Tests.{eq-eqb, ne-eqb}
 use denote.Enum.Declared.{tagOf}
-use lib.Dec.{ltb}
+use lib.Dec.{eqb, ltb}
 use types.Run.{OneOf, miss}
+use Rattle.messages.specs.declared.Edition.{Edition}
 use Rattle.messages.specs.declared.Refusal.{Refusal}
 use Rattle.messages.specs.declared.RunId.{RunId}
 use Rattle.messages.specs.Answers.{numberOf}
@@ -15,10 +16,10 @@ use Rattle.messages.proofs.CheckLaws.{pass, fail}
 use Rattle.rules.specs.declared.Phase.{Phase}
 use Rattle.rules.specs.declared.Phase.the-variants.{Asked, Sounding, Reported, Awaiting, Ready, Counting, Success}
 use Rattle.rules.specs.declared.Record.{Record}
-use Rattle.ends.specs.Constants.{soundCount, retryCount}
-use Rattle.rules.specs.Records.{sameRun, inPhase, reported, withHeard, counted}
+use Rattle.ends.specs.Constants.{retryCount}
+use Rattle.rules.specs.Records.{sameRun, inPhase, reported, withHeard, fitsGroups, groupsKept, counted}
 use Rattle.rules.specs.Sounds.{isIn, marked}
-use Rattle.rules.specs.Constants.{readyTime, readyResult}
+use Rattle.rules.specs.Constants.{soundingTime, soundsPerTry, pairOf, readyTime, readyResult}
 use Rattle.rules.specs.Replies.{confirmation, reportOf}
 use Rattle.rules.specs.Frames.{Kept, keeps, startRule, soundRule, profileRule, rspRule, answered, firstRule, secondRule, mayMatch, matchRule}
 use Rattle.rules.proofs.Phase.{the-type}
@@ -27,6 +28,7 @@ use Rattle.records.specs.declared.requests.Kept as code
 use Rattle.records.specs.declared.requests.Verdict.the-variants as verdict
 use Rattle.records.specs.Heard.{marking}
 use Rattle.records.specs.Requests.{recordAfter, Keeps, Validates}
+use Rattle.rules.proofs.TryLaws.{sounds-most}
 use Rattle.records.proofs.HeardLaws.{new-marking}
 
 -- ---- what a message comes to
@@ -63,25 +65,25 @@ not-sounding f a b d g h i (Counting t k c) o = h t k c
 not-sounding f a b d g h i (Success t) o = i t
 
 -- SOUND outside Sounding
-pub sound-elsewhere : (k : ℕ) (r : Record) (p : Phase) → OneOf (0 ∷ 2 ∷ 3 ∷ 4 ∷ 5 ∷ 6 ∷ []) (tagOf the-type p) → soundRule k r p ≡ no 12
+pub sound-elsewhere : (e : Edition) (k : ℕ) (r : Record) (p : Phase) → OneOf (0 ∷ 2 ∷ 3 ∷ 4 ∷ 5 ∷ 6 ∷ []) (tagOf the-type p) → soundRule e k r p ≡ no 12
 unfolding soundRule
-sound-elsewhere k r p o = not-sounding (soundRule k r) (λ t. refl) (λ t n. refl) (λ t. refl) (λ t. refl) (λ t n b. refl) (λ t. refl) p o
+sound-elsewhere e k r p o = not-sounding (soundRule e k r) (λ t. refl) (λ t n. refl) (λ t. refl) (λ t. refl) (λ t n b. refl) (λ t. refl) p o
 
 -- PROFILE outside Sounding
-pub profile-elsewhere : (vs : List ℕ) (r : Record) (p : Phase) → OneOf (0 ∷ 2 ∷ 3 ∷ 4 ∷ 5 ∷ 6 ∷ []) (tagOf the-type p) → profileRule vs r p ≡ no 12
+pub profile-elsewhere : (e : Edition) (g : ℕ) (vs : List ℕ) (r : Record) (p : Phase) → OneOf (0 ∷ 2 ∷ 3 ∷ 4 ∷ 5 ∷ 6 ∷ []) (tagOf the-type p) → profileRule e g vs r p ≡ no 12
 unfolding profileRule
-profile-elsewhere vs r p o = not-sounding (profileRule vs r) (λ t. refl) (λ t n. refl) (λ t. refl) (λ t. refl) (λ t n b. refl) (λ t. refl) p o
+profile-elsewhere e g vs r p o = not-sounding (profileRule e g vs r) (λ t. refl) (λ t n. refl) (λ t. refl) (λ t. refl) (λ t n b. refl) (λ t. refl) p o
 
 -- START after Sounding
-pub start-late : (r : Record) (p : Phase) → OneOf (2 ∷ 3 ∷ 4 ∷ 5 ∷ 6 ∷ []) (tagOf the-type p) → startRule r p ≡ no 12
+pub start-late : (e : Edition) (k : ℕ) (r : Record) (p : Phase) → OneOf (2 ∷ 3 ∷ 4 ∷ 5 ∷ 6 ∷ []) (tagOf the-type p) → startRule e k r p ≡ no 12
 unfolding startRule
-start-late r (Asked t) o = absurd (miss (2 ∷ 3 ∷ 4 ∷ 5 ∷ 6 ∷ []) 0 tt o)
-start-late r (Sounding t) o = absurd (miss (2 ∷ 3 ∷ 4 ∷ 5 ∷ 6 ∷ []) 1 tt o)
-start-late r (Reported t n) o = refl
-start-late r (Awaiting t) o = refl
-start-late r (Ready t) o = refl
-start-late r (Counting t k b) o = refl
-start-late r (Success t) o = refl
+start-late e k r (Asked t) o = absurd (miss (2 ∷ 3 ∷ 4 ∷ 5 ∷ 6 ∷ []) 0 tt o)
+start-late e k r (Sounding t) o = absurd (miss (2 ∷ 3 ∷ 4 ∷ 5 ∷ 6 ∷ []) 1 tt o)
+start-late e k r (Reported t n) o = refl
+start-late e k r (Awaiting t) o = refl
+start-late e k r (Ready t) o = refl
+start-late e k r (Counting t n b) o = refl
+start-late e k r (Success t) o = refl
 
 -- RSP outside Reported
 pub rsp-elsewhere : (r : Record) (p : Phase) → OneOf (0 ∷ 1 ∷ 3 ∷ 4 ∷ 5 ∷ 6 ∷ []) (tagOf the-type p) → rspRule r p ≡ no 12
@@ -127,6 +129,19 @@ may-not-match (Ready t) o = refl
 may-not-match (Counting t k b) o = refl
 may-not-match (Success t) o = absurd (miss (0 ∷ 1 ∷ 2 ∷ 4 ∷ 5 ∷ []) 6 tt o)
 
+-- ---- START
+
+module _ (e : Edition) (a : ℕ) (r : Record) (t p : ℕ) (own : p ≡ pairOf e (r .later)) where
+  -- in Asked: the record in Sounding, with its try's time
+  pub start-asked : (time : ℕ) (n : Record) → r .phase ≡ Asked t → time ≡ soundingTime e (r .later) → n ≡ inPhase (Sounding time) r → check (eqb a p) 22 (keeps n []) ≡ startRule e a r (r .phase)
+  unfolding startRule
+  start-asked time n q s same = rw (own, same, s) (sym (ap (startRule e a r) q))
+
+  -- in Sounding: the record as it is
+  pub start-again : r .phase ≡ Sounding t → check (eqb a p) 22 (keeps r []) ≡ startRule e a r (r .phase)
+  unfolding startRule
+  start-again q = rw own (sym (ap (startRule e a r) q))
+
 -- ---- SOUND and PROFILE in Sounding
 
 -- two tests with one refusal are one test
@@ -134,45 +149,56 @@ two-checks : {A : Type 0} (a b : Bool) (n : ℕ) (x : Checked A) → check a n (
 two-checks true b n x = refl
 two-checks false b n x = refl
 
-module _ (k : ℕ) (r : Record) (t : ℕ) (e : r .phase ≡ Sounding t) where
+module _ (e : Edition) (k : ℕ) (r : Record) (t : ℕ) (q : r .phase ≡ Sounding t) where
+  -- below the try's sounds, and not heard
+  abbrev isNew : Bool
+  isNew = ltb k (soundsPerTry e (r .later)) && not (isIn k (r .heard))
+
   -- SOUND in Sounding has one test
-  in-sounding : soundRule k r (r .phase) ≡ check (ltb k soundCount && not (isIn k (r .heard))) 13 (keeps (withHeard (marked k (r .heard)) r) [])
+  in-sounding : soundRule e k r (r .phase) ≡ check isNew 13 (keeps (withHeard (marked k (r .heard)) r) [])
   unfolding soundRule
-  in-sounding = ap (soundRule k r) e ∙ two-checks (ltb k soundCount) (not (isIn k (r .heard))) 13 _
+  in-sounding = ap (soundRule e k r) q ∙ two-checks (ltb k (soundsPerTry e (r .later))) (not (isIn k (r .heard))) 13 _
 
   -- a count that is new
-  pub sound-new : ltb k soundCount && not (isIn k (r .heard)) ≡ true → soundRule k r (r .phase) ≡ keeps (withHeard (marking k (r .heard)) r) []
-  sound-new h = in-sounding ∙ pass _ 13 _ h ∙ ap (λ (s : ℕ). keeps (withHeard s r) []) (sym (new-marking k (r .heard) h))
+  pub sound-new : isNew ≡ true → soundRule e k r (r .phase) ≡ keeps (withHeard (marking k (r .heard)) r) []
+  sound-new h = in-sounding ∙ pass _ 13 _ h ∙ ap (λ (s : ℕ). keeps (withHeard s r) []) (sym (new-marking (soundsPerTry e (r .later)) k (r .heard) (sounds-most e (r .later)) h))
 
   -- a count that is too high, or heard already
-  pub sound-known : ltb k soundCount && not (isIn k (r .heard)) ≡ false → soundRule k r (r .phase) ≡ no 13
+  pub sound-known : isNew ≡ false → soundRule e k r (r .phase) ≡ no 13
   sound-known h = in-sounding ∙ fail _ 13 _ h
 
-module _ (vs : List ℕ) (r : Record) (t : ℕ) (e : r .phase ≡ Sounding t) where
-  -- a report does not depend on the phase
-  report-phase : (p : Phase) (x : Record) → reportOf (inPhase p x) ≡ reportOf x
-  unfolding reportOf inPhase
-  report-phase p x = refl
+-- a report does not depend on the phase
+report-phase : (p : Phase) (x : Record) → reportOf (inPhase p x) ≡ reportOf x
+unfolding reportOf inPhase
+report-phase p x = refl
 
-  -- one more is counted
-  count-is : (n : Record) → n ≡ counted vs r → n .profiles ≡ r .profiles + 1
-  unfolding counted
-  count-is n q = ap (λ (x : Record). x .profiles) q
-
-  -- the last profile
-  pub profile-last : (n : Record) → n ≡ counted vs r → n .profiles ≡ soundCount
-      → profileRule vs r (r .phase) ≡ keeps (reported retryCount (counted vs r)) (reportOf (reported retryCount (counted vs r)) ∷ [])
+module _ (e : Edition) (g : ℕ) (vs : List ℕ) (r : Record) (t : ℕ) (q : r .phase ≡ Sounding t) where
+  -- another group count
+  pub profile-other : fitsGroups g (r .groups) ≡ false → profileRule e g vs r (r .phase) ≡ no 23
   unfolding profileRule
-  profile-last n q h =
-      ap (profileRule vs r) e
-      ∙ rw (eq-eqb (r .profiles + 1) soundCount (sym (count-is n q) ∙ h), report-phase _ (counted vs r))
+  profile-other h = ap (profileRule e g vs r) q ∙ fail (fitsGroups g (r .groups)) 23 _ h
 
-  -- a profile before the last
-  pub profile-more : (n : Record) → n ≡ counted vs r → (n .profiles ≡ soundCount → ⊥) → profileRule vs r (r .phase) ≡ keeps (counted vs r) []
-  unfolding profileRule
-  profile-more n q h =
-      ap (profileRule vs r) e
-      ∙ rw (ne-eqb (r .profiles + 1) soundCount (λ (z : r .profiles + 1 ≡ soundCount). h (count-is n q ∙ z)))
+  module _ (fits : fitsGroups g (r .groups) ≡ true) (n : Record) (same : n ≡ counted (groupsKept e g) vs r) (k : ℕ) (sounds : k ≡ soundsPerTry e (r .later)) where
+    -- one more is counted
+    count-is : n .profiles ≡ r .profiles + 1
+    unfolding counted
+    count-is = ap (λ (x : Record). x .profiles) same
+
+    -- the last profile
+    pub profile-last : n .profiles ≡ k → profileRule e g vs r (r .phase) ≡ keeps (reported retryCount (counted (groupsKept e g) vs r)) (reportOf (reported retryCount (counted (groupsKept e g) vs r)) ∷ [])
+    unfolding profileRule
+    profile-last h =
+        ap (profileRule e g vs r) q
+        ∙ pass (fitsGroups g (r .groups)) 23 _ fits
+        ∙ rw (eq-eqb (r .profiles + 1) (soundsPerTry e (r .later)) (sym count-is ∙ h ∙ sounds), report-phase _ (counted (groupsKept e g) vs r))
+
+    -- a profile before the last
+    pub profile-more : (n .profiles ≡ k → ⊥) → profileRule e g vs r (r .phase) ≡ keeps (counted (groupsKept e g) vs r) []
+    unfolding profileRule
+    profile-more h =
+        ap (profileRule e g vs r) q
+        ∙ pass (fitsGroups g (r .groups)) 23 _ fits
+        ∙ rw (ne-eqb (r .profiles + 1) (soundsPerTry e (r .later)) (λ (z : r .profiles + 1 ≡ soundsPerTry e (r .later)). h (count-is ∙ z ∙ sym sounds)))
 
 -- ---- the run
 

@@ -1,12 +1,13 @@
 -- A tick at one record: a phase by its time, and what it sends.
-use Prim.Native.Nat.{ℕ, _+_, _-_, _≤_}
+use Prim.Native.Nat.{ℕ, _+_, _-_, _≤_, _<_}
 use mathlib.Core.Path.{_≡_, refl, sym, ap, subst, _∙_}
 use mathlib.Core.Bool.{Bool, true, false, cond}
 use mathlib.Core.List.{List, [], _∷_}
 use native.Mathlib.Omega.{arith}
-use borrow.Author.Tests.{le-leb, lt-leb, eq-eqb, ne-eqb}
+use borrow.Author.Tests.{le-leb, lt-leb, eq-eqb, ne-eqb, eqb-false}
 use lib.Dec.{eqb, leb}
 use lib.ListN.{length}
+use Rattle.messages.specs.declared.Edition.{Edition}
 use Rattle.rules.specs.declared.Configuration.{Configuration}
 use Rattle.rules.specs.declared.Phase.{Phase}
 use Rattle.rules.specs.declared.Phase.the-variants.{Asked, Sounding, Reported, Awaiting, Ready, Counting, Success}
@@ -16,6 +17,7 @@ use Rattle.rules.specs.Records.{isHeld}
 use Rattle.ends.specs.Lists.{only}
 use Rattle.rules.specs.Replies.{Reply, confirmation, reportOf, isReport, isConfirmation, frameTo, framesTo}
 use Rattle.rules.specs.Ticks.{Ticked, runsOut, waits, fires, windowEnds, tickPhase, recordOf, repliesOf, tickRecord, tickFrames}
+use Rattle.rules.specs.Invariant.{InPhase, GoodRecord}
 use Rattle.ends.proofs.Logic.{split, clash}
 use Rattle.records.specs.declared.timers.AfterTick.{AfterTick}
 use Rattle.records.specs.Timers.{anySent, tickReplies, afterTick, afterHeld, timeOf, withLeft, firedOf}
@@ -154,3 +156,22 @@ reporting o b e r = frames-sent isReport o b e r ∙ ap (framesTo o (r .car)) (s
 pub sending-held : (p : Reply → Bool) (b : Bool) (e : ℕ) (r : Record) → anySent (only p (tickReplies b e r)) ≡ true → isHeld r ≡ true
 unfolding tickReplies only
 sending-held p b e r q = split (isHeld r) (λ h. h) (λ h. clash (anySent (only p (tickReplies b e r))) q (rw h))
+
+-- a record that reports counts some profile
+some-in : (ed : Edition) (b : Bool) (e : ℕ) (r : Record) (p : Phase) → InPhase ed (r .later) p (r .profiles) → anySent (only isReport (repliesOf (tickPhase b e r p))) ≡ true → 0 < r .profiles
+unfolding tickPhase repliesOf only
+some-in ed b e r (Asked t) h q = clash (anySent (only isReport (repliesOf (tickPhase b e r (Asked t))))) q (split (leb t e) (λ a. rw a) (λ a. rw a))
+some-in ed b e r (Sounding t) h q = split (eqb (r .profiles) 0)
+    (λ z. clash (anySent (only isReport (repliesOf (tickPhase b e r (Sounding t))))) q (split (leb t e) (λ a. rw (a, z)) (λ a. rw a)))
+    (λ z. omega (arith, eqb-false (r .profiles) 0 z))
+some-in ed b e r (Reported t n) h q = h .1 .1 .0
+some-in ed b e r (Awaiting t) h q = h .1 .0
+some-in ed b e r (Ready t) h q = h .1 .0
+some-in ed b e r (Counting t k g) h q = h .1 .1 .0
+some-in ed b e r (Success t) h q = h .1 .0
+
+pub reporting-some : (ed : Edition) (b : Bool) (e : ℕ) (r : Record) → GoodRecord ed r → anySent (only isReport (tickReplies b e r)) ≡ true → 0 < r .profiles
+unfolding tickReplies
+reporting-some ed b e r g q =
+    let held : isHeld r ≡ true = sending-held isReport b e r q in
+    some-in ed b e r (r .phase) (g .phase) (sym (ap (λ (x : Bool). anySent (only isReport (cond x (repliesOf (tickPhase b e r (r .phase))) []))) held) ∙ q)

@@ -199,9 +199,9 @@ module _ (b : Bool) (k : ℕ) (r : Record) where
 -- the result of the first confirmation
 abbrev resultIn : List Reply → ℕ
 resultIn [] = 0
-resultIn (parmCnf run ∷ ts) = 0
-resultIn (matchCnf run ∷ ts) = 0
-resultIn (report run n vs ∷ ts) = 0
+resultIn (parmCnf later run ∷ ts) = 0
+resultIn (matchCnf run a b ∷ ts) = 0
+resultIn (report run n g vs ∷ ts) = 0
 resultIn (confirmation k x ∷ ts) = x
 
 window-limited : (b : Bool) (k : ℕ) (r : Record) → resultIn (only isConfirmation (repliesOf (windowEnds b k r))) < resultLimit

@@ -2,6 +2,7 @@
 use Prim.Native.Nat.{ℕ}
 use mathlib.Core.Path.{_≡_}
 use mathlib.Core.List.{[], _∷_}
+use Rattle.messages.specs.declared.Edition.{Edition}
 use Rattle.messages.specs.Answers.{numberOf}
 use Rattle.messages.specs.Reading.{Checked, no, yes}
 use Rattle.rules.specs.declared.Record.{Record}
@@ -33,11 +34,11 @@ pub record Keeps (r : Record) (rule : Checked Kept) (k : code.Kept) : Type 0 whe
   pub kept : k .kept ≡ recordAfter r rule
   pub effect : effectOf (k .kept) (k .effect) ≡ rule
 
--- START, SOUND and RSP at a record
-abbrev pub runRule : RunMessage → Record → Checked Kept
-runRule Start r = startRule r (r .phase)
-runRule (Sound k) r = soundRule k r (r .phase)
-runRule Rsp r = rspRule r (r .phase)
+-- in an edition, START, SOUND and RSP at a record
+abbrev pub runRule : Edition → RunMessage → Record → Checked Kept
+runRule e (Start a) r = startRule e (a .0) r (r .phase)
+runRule e (Sound k) r = soundRule e k r (r .phase)
+runRule e Rsp r = rspRule r (r .phase)
 
 -- what a verdict says
 abbrev pub verdictOf : Verdict → Checked (Unit {0})

@@ -8,9 +8,9 @@ ghost use mathlib.Core.Path.{_≡_};
 ghost use Rattle.rules.specs.Records as defined;
 ghost use Rattle.rules.specs.Records.{inPhase, withHeard};
 
-// PARM.REQ's record: a new run of the car, with nothing heard and nothing counted.
-pub fn fresh(car: CarAddress, run: RunId) -> Record
-    ensures { λ r. ⌜ r ≡ defined.fresh car run ⌝ }
+// PARM.REQ's record: a new run of the car, in a first or a later try, with nothing heard and nothing counted.
+pub fn fresh(later: bool, car: CarAddress, run: RunId) -> Record
+    ensures { λ r. ⌜ r ≡ defined.fresh later car run ⌝ }
 {
     let sums = rules::no_sums();
     let spread = rules::no_spread();
@@ -23,6 +23,8 @@ pub fn fresh(car: CarAddress, run: RunId) -> Record
         profiles: 0,
         sums: sums,
         spread: spread,
+        later: later,
+        groups: 0,
     }
 }
 
@@ -43,6 +45,8 @@ pub fn owned(car: CarAddress, r: Record) -> Record
         profiles: r.profiles,
         sums: sums,
         spread: spread,
+        later: r.later,
+        groups: r.groups,
     }
 }
 
@@ -63,6 +67,8 @@ pub fn in_phase(r: Record, phase: Phase) -> Record
         profiles: r.profiles,
         sums: sums,
         spread: spread,
+        later: r.later,
+        groups: r.groups,
     }
 }
 
@@ -84,5 +90,7 @@ pub fn with_heard(r: Record, heard: u16) -> Record
         profiles: r.profiles,
         sums: sums,
         spread: spread,
+        later: r.later,
+        groups: r.groups,
     }
 }

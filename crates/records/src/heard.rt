@@ -1,5 +1,4 @@
 // The set of sound counts heard: count k is in it where its binary digit k is 1.
-use ends::SOUNDS;
 ghost use mathlib.Core.Path.{_≡_};
 ghost use lib.Count.{ones};
 ghost use Rattle.rules.specs.Sounds.{isIn};
@@ -20,7 +19,7 @@ pub fn is_heard(heard: u16, count: u8) -> bool
 pub fn mark(heard: u16, count: u8) -> u16
     ensures { λ r. ⌜ r ≡ marking count heard ⌝ }
 {
-    if count < SOUNDS {
+    if count < 16 {
         heard | (1u16 << count)
     } else {
         heard

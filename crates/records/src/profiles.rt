@@ -1,15 +1,17 @@
 // The sums and the spread of the profiles counted.
+use messages::Edition;
 use messages::GROUPS;
 use messages::GroupValues;
 use rules::GroupSums;
 use rules::Record;
 use rules::Spread;
+use rules::tries;
 ghost use Prim.Native.Nat.{ℕ, _*_, _<_, _≤_, min, max};
 ghost use mathlib.Core.Path.{_≡_};
 ghost use lib.ListN.{getD};
-ghost use Rattle.ends.specs.Constants.{soundCount};
-ghost use Rattle.rules.specs.Invariant.{GoodRecord};
 ghost use Rattle.rules.specs.Records as defined;
+ghost use Rattle.rules.specs.Records.{groupsKept};
+ghost use Rattle.records.specs.Means.{mostProfiles, Summed};
 
 // A group value as a number to add.
 fn wide(x: u8) -> u16
@@ -20,7 +22,7 @@ fn wide(x: u8) -> u16
 
 // Each group's value added to its sum.
 fn added(sums: GroupSums, values: GroupValues) -> GroupSums
-    requires { ⌜ ((i : ℕ) → getD sums i 0 ≤ 255 * soundCount) ⌝ }
+    requires { ⌜ ((i : ℕ) → getD sums i 0 ≤ 255 * mostProfiles) ⌝ }
     ensures { λ r. ⌜ r ≡ defined.added sums values ⌝ }
 {
     let mut s = sums;
@@ -64,10 +66,10 @@ fn widened(spread: Spread, values: GroupValues) -> Spread
     }
 }
 
-// The record with a profile's values added, its spread widened, and one more counted.
-pub fn counted(r: Record, values: GroupValues) -> Record
-    requires { ⌜ GoodRecord r ⌝ }
-    ensures { λ x. ⌜ x ≡ defined.counted values r ⌝ }
+// The record with a profile's values added, its spread widened, one more counted, and its group count kept.
+pub fn counted(edition: Edition, r: Record, count: usize, values: GroupValues) -> Record
+    requires { ⌜ Summed (r .profiles) (r .sums) ⌝ }
+    ensures { λ x. ⌜ x ≡ defined.counted (groupsKept edition count) values r ⌝ }
 {
     let car = r.car;
     let run = r.run;
@@ -85,5 +87,7 @@ pub fn counted(r: Record, values: GroupValues) -> Record
         profiles: r.profiles + 1,
         sums: more,
         spread: wider,
+        later: r.later,
+        groups: tries::groups_kept(edition, count),
     }
 }

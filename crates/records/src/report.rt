@@ -5,11 +5,9 @@ use rules::GroupSums;
 use rules::Record;
 ghost use mathlib.Core.Path.{_≡_};
 ghost use mathlib.Core.List.{map};
-ghost use Prim.Native.Nat.{ℕ, _+_, _*_, _^_, _/_, _<_, _≤_};
-ghost use lib.ListN.{getD};
+ghost use Prim.Native.Nat.{_+_, _*_, _^_, _/_, _<_, _≤_};
 ghost use Rattle.rules.specs.Replies.{mean};
-ghost use Rattle.rules.specs.Invariant.{GoodRecord};
-ghost use Rattle.records.specs.Means.{mostProfiles, reciprocal};
+ghost use Rattle.records.specs.Means.{mostProfiles, Summed, reciprocal};
 
 // 65,536 divided by each number of profiles from 0 to 16, rounded up; 0 for 0.
 const RECIPROCALS: [u32; 17] = [
@@ -52,7 +50,7 @@ fn scaled(sum: u16, addend: u16, factor: u32) -> u8
 // Each sum, with half the profiles counted, scaled by their reciprocal: its mean, rounded to the nearest, a half upwards; zeros
 // where no profile is counted.
 pub fn values(r: Record) -> GroupValues
-    requires { ⌜ GoodRecord r ⌝ }
+    requires { ⌜ Summed (r .profiles) (r .sums) ⌝ }
     ensures { λ v. ⌜ v ≡ map (mean (r .profiles)) (r .sums) ⌝ }
 {
     let sums = r.sums;
@@ -61,7 +59,7 @@ pub fn values(r: Record) -> GroupValues
 
 // Each sum's mean over so many profiles.
 fn means(sums: GroupSums, profiles: u8) -> GroupValues
-    requires { ⌜ (profiles ≤ mostProfiles) × ((i : ℕ) → getD sums i 0 ≤ 255 * profiles) ⌝ }
+    requires { ⌜ Summed profiles sums ⌝ }
     ensures { λ v. ⌜ v ≡ map (mean profiles) sums ⌝ }
 {
     let factor = reciprocal_of(profiles);

@@ -3,7 +3,8 @@ use crate::changes;
 use crate::heard;
 use crate::profiles;
 use ends::RETRIES;
-use ends::SOUNDS;
+use messages::Attempt;
+use messages::Edition;
 use messages::GroupValues;
 use messages::Refusal;
 use messages::RunId;
@@ -13,11 +14,13 @@ use rules::READY_RESULT;
 use rules::READY_TIME;
 use rules::REPORTED_TIME;
 use rules::Record;
-use rules::SOUNDING_TIME;
 use rules::WINDOW_STEP;
+use rules::tries;
 ghost use mathlib.Core.Path.{_≡_};
 ghost use mathlib.Core.List.{[], _∷_};
-ghost use Rattle.rules.specs.Frames.{startRule, soundRule, profileRule, rspRule, firstRule, secondRule, mayMatch, matchRule, atRun};
+ghost use Rattle.messages.specs.Reading.{check};
+ghost use Rattle.rules.specs.Records.{fitsGroups};
+ghost use Rattle.rules.specs.Frames.{keeps, startRule, soundRule, profileRule, rspRule, firstRule, secondRule, mayMatch, matchRule, atRun};
 ghost use Rattle.rules.specs.Invariant.{GoodRecord};
 ghost use Rattle.records.specs.Requests.{Keeps, Validates, runRule, verdictOf};
 
@@ -34,9 +37,9 @@ pub struct Kept {
     pub effect: Effect,
 }
 
-// The messages that name the run of a record: START, SOUND with its count, RSP.
+// The messages that name the run of a record: START with its try's pair, SOUND with its count, RSP.
 pub enum RunMessage {
-    Start,
+    Start(Attempt),
     Sound(u8),
     Rsp,
 }
@@ -53,20 +56,36 @@ pub struct Validated {
     pub verdict: Verdict,
 }
 
+// START in a phase that takes it: the record as given, or refused where the pair is not its try's.
+fn own_try(r: Record, own: bool, next: Record) -> Kept
+    ensures { λ k. ⌜ Keeps r (check own 22 (keeps next [])) k ⌝ }
+{
+    if own {
+        Kept {
+            kept: next,
+            effect: Effect::NoReply,
+        }
+    } else {
+        Kept {
+            kept: r,
+            effect: Effect::Refused(Refusal::OtherTry),
+        }
+    }
+}
+
 // START: Asked becomes Sounding; in Sounding nothing changes.
-pub fn start(r: Record) -> Kept
-    ensures { λ k. ⌜ Keeps r (startRule r (r .phase)) k ⌝ }
+pub fn start(edition: Edition, r: Record, attempt: Attempt) -> Kept
+    ensures { λ k. ⌜ Keeps r (startRule edition (attempt .0) r (r .phase)) k ⌝ }
 {
     let phase = r.phase;
+    let own = attempt.0 == tries::pair(edition, r.later);
     match phase {
-        Phase::Asked(_) => Kept {
-            kept: changes::in_phase(r, Phase::Sounding(SOUNDING_TIME)),
-            effect: Effect::NoReply,
-        },
-        Phase::Sounding(_) => Kept {
-            kept: r,
-            effect: Effect::NoReply,
-        },
+        Phase::Asked(_) => {
+            let time = tries::sounding_time(edition, r.later);
+            let next = changes::in_phase(r, Phase::Sounding(time));
+            own_try(r, own, next)
+        }
+        Phase::Sounding(_) => own_try(r, own, r),
         _ => Kept {
             kept: r,
             effect: Effect::Refused(Refusal::WrongPhase),
@@ -75,8 +94,8 @@ pub fn start(r: Record) -> Kept
 }
 
 // SOUND in Sounding: its count is marked heard.
-pub fn sound(r: Record, count: u8) -> Kept
-    ensures { λ k. ⌜ Keeps r (soundRule count r (r .phase)) k ⌝ }
+pub fn sound(edition: Edition, r: Record, count: u8) -> Kept
+    ensures { λ k. ⌜ Keeps r (soundRule edition count r (r .phase)) k ⌝ }
 {
     let phase = r.phase;
     let Phase::Sounding(_) = phase else {
@@ -86,7 +105,7 @@ pub fn sound(r: Record, count: u8) -> Kept
         };
     };
     let set = r.heard;
-    if (count < SOUNDS) & !heard::is_heard(set, count) {
+    if (count < tries::sounds(edition, r.later)) & !heard::is_heard(set, count) {
         Kept {
             kept: changes::with_heard(r, heard::mark(set, count)),
             effect: Effect::NoReply,
@@ -99,10 +118,17 @@ pub fn sound(r: Record, count: u8) -> Kept
     }
 }
 
+// Whether a profile has the group count of the record, or is its first.
+fn fits_groups(count: usize, groups: usize) -> bool
+    ensures { λ b. ⌜ b ≡ fitsGroups count groups ⌝ }
+{
+    (groups == 0) | (count == groups)
+}
+
 // PROFILE in Sounding: its values are added; the last one closes Sounding with a report.
-pub fn profile(r: Record, values: GroupValues) -> Kept
-    requires { ⌜ GoodRecord r ⌝ }
-    ensures { λ k. ⌜ Keeps r (profileRule values r (r .phase)) k ⌝ }
+pub fn profile(edition: Edition, r: Record, count: usize, values: GroupValues) -> Kept
+    requires { ⌜ GoodRecord edition r ⌝ }
+    ensures { λ k. ⌜ Keeps r (profileRule edition count values r (r .phase)) k ⌝ }
 {
     let phase = r.phase;
     let Phase::Sounding(_) = phase else {
@@ -111,8 +137,14 @@ pub fn profile(r: Record, values: GroupValues) -> Kept
             effect: Effect::Refused(Refusal::WrongPhase),
         };
     };
-    let more = profiles::counted(r, values);
-    if more.profiles == SOUNDS {
+    if !fits_groups(count, r.groups) {
+        return Kept {
+            kept: r,
+            effect: Effect::Refused(Refusal::OtherGroupCount),
+        };
+    }
+    let more = profiles::counted(edition, r, count, values);
+    if more.profiles == tries::sounds(edition, r.later) {
         let closed = Phase::Reported {
             left: REPORTED_TIME,
             retries: RETRIES,
@@ -151,14 +183,14 @@ pub fn rsp(r: Record) -> Kept
 }
 
 // START, SOUND or RSP of a run at the car's record, which may be of another run.
-pub fn at_run(r: Record, run: RunId, message: RunMessage) -> Kept
-    ensures { λ k. ⌜ Keeps r (atRun run (r ∷ []) (runRule message)) k ⌝ }
+pub fn at_run(edition: Edition, r: Record, run: RunId, message: RunMessage) -> Kept
+    ensures { λ k. ⌜ Keeps r (atRun run (r ∷ []) (runRule edition message)) k ⌝ }
 {
     let own = r.run;
     if run.0 == own.0 {
         match message {
-            RunMessage::Start => start(r),
-            RunMessage::Sound(count) => sound(r, count),
+            RunMessage::Start(attempt) => start(edition, r, attempt),
+            RunMessage::Sound(count) => sound(edition, r, count),
             RunMessage::Rsp => rsp(r),
         }
     } else {

@@ -203,6 +203,8 @@ pub fn freed(r: Record) -> Record
         profiles: r.profiles,
         sums: sums,
         spread: spread,
+        later: r.later,
+        groups: r.groups,
     }
 }
 
@@ -223,5 +225,7 @@ fn held_in(r: Record, phase: Phase) -> Record
         profiles: r.profiles,
         sums: sums,
         spread: spread,
+        later: r.later,
+        groups: r.groups,
     }
 }

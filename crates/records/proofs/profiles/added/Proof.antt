@@ -2,7 +2,7 @@
 use Prim.Native.Nat.{ℕ, _+_, _*_, _-_}
 use Rattle.records.proofs.LoopLaws.{Merging, merging-start, merging-next, merging-end, Room, room-next}
 use Rattle.rules.proofs.IndexLaws.{passed}
-use Rattle.ends.specs.Constants.{soundCount}
+use Rattle.records.specs.Means.{mostProfiles}
 use borrow.Author.Needs.{needs}
 use lib.ListN.{length, getD}
 use mathlib.Core.Path.{ap}
@@ -11,7 +11,7 @@ use Rattle.records.proofs.profiles.added.Statement.{statement}
 use Rattle.records.proofs.profiles.added.Tie as tie
 
 abbrev Inv-loop : tie.InvT-loop
-Inv-loop values s₀ i₀ s i = Merging _+_ i s values s₀ × Room (255 * soundCount) i s
+Inv-loop values s₀ i₀ s i = Merging _+_ i s values s₀ × Room (255 * mostProfiles) i s
 
 abbrev μ-loop : tie.MeasureT-loop
 μ-loop values s₀ i₀ s i = length s₀ - i
