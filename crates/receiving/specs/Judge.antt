@@ -8,7 +8,7 @@ use Rattle.messages.specs.declared.ReadAnswer.the-variants as readAnswer
 use Rattle.messages.specs.declared.Refusal.{Refusal}
 use Rattle.messages.specs.declared.Refusal.the-variants.{TooShort, NotForUs}
 use Rattle.messages.specs.Answers.{numberOf}
-use Rattle.messages.specs.Reading.{Checked, no, yes, check}
+use Rattle.messages.specs.Reading.{Checked, no, yes, check, Beside}
 use Rattle.messages.specs.Table.{Message}
 use Rattle.rules.specs.declared.Configuration.{Configuration}
 use Rattle.rules.specs.declared.State.{State}
@@ -38,7 +38,7 @@ asking y = record { car = y .car; request = y .request }
 -- MATCH.REQ
 abbrev pub isMatch : Request → Bool
 isMatch (forRecord m) = false
-isMatch (matchReq run) = true
+isMatch (matchReq run a b) = true
 
 -- "Matching takes all; Joining takes MATCH.REQ only"
 abbrev pub takes : State → Request → Bool
@@ -61,30 +61,30 @@ addressedRule o m = forUsRule o (receivedIn (yes m))
 
 -- "16, 15, reading, 17, 7, 8", or the request
 unfoldable pub judgeRule : Configuration → State → ℕ → List ℕ → Checked Asking
-judgeRule o st room s = stateJudged st (andThen (admitted o room (received s)) (λ (y : Received). yes (asking y)))
+judgeRule o st room s = stateJudged st (andThen (admitted o room (received (o .edition) s)) (λ (y : Received). yes (asking y)))
 
 -- ---- what the code's answers say
 
--- a message at the car's own record, with the group values g beside it
-abbrev pub ownMessageOf : OwnMessage → List ℕ → RecordMessage
-ownMessageOf (Run run Start) g = start run
-ownMessageOf (Run run (Sound k)) g = sound run k
-ownMessageOf (Run run Rsp) g = rsp run
-ownMessageOf Profile g = profile g
-ownMessageOf (ValidateSecond timer) g = validateSecond timer
+-- a message at the car's own record, with b beside it
+abbrev pub ownMessageOf : OwnMessage → Beside → RecordMessage
+ownMessageOf (Run run (Start a)) b = start run (a .0)
+ownMessageOf (Run run (Sound k)) b = sound run k
+ownMessageOf (Run run Rsp) b = rsp run
+ownMessageOf (Profile n) b = profile n (b .groups)
+ownMessageOf (ValidateSecond timer) b = validateSecond timer
 
--- a request, with the group values g beside it
-abbrev pub requestOf : code.Request → List ℕ → Request
-requestOf (request.Parm run) g = forRecord (parmReq run)
-requestOf (request.Own m) g = forRecord (ownMessageOf m g)
-requestOf request.ValidateFirst g = forRecord validateFirst
-requestOf (request.ValidateSecond timer) g = forRecord (validateSecond timer)
-requestOf (request.Match run) g = matchReq run
+-- a request, with b beside it
+abbrev pub requestOf : code.Request → Beside → Request
+requestOf (request.Parm run) b = forRecord (parmReq run)
+requestOf (request.Own m) b = forRecord (ownMessageOf m b)
+requestOf request.ValidateFirst b = forRecord validateFirst
+requestOf (request.ValidateSecond timer) b = forRecord (validateSecond timer)
+requestOf (request.Match run) b = matchReq run (b .first) (b .second)
 
--- what judging answered, with the group values g beside it
-abbrev pub judgedOf : Judged → List ℕ → Checked Asking
-judgedOf (judged.Refused x) g = no (numberOf x)
-judgedOf (judged.Taken c m) g = yes (record { car = c; request = requestOf m g })
+-- what judging answered, with b beside it
+abbrev pub judgedOf : Judged → Beside → Checked Asking
+judgedOf (judged.Refused x) b = no (numberOf x)
+judgedOf (judged.Taken c m) b = yes (record { car = c; request = requestOf m b })
 
 -- the refusal of an answer that is one
 abbrev pub refusalIn : ReadAnswer → Refusal

@@ -1,10 +1,11 @@
 // Where a PARM.REQ's record goes.
+use messages::Edition;
 use messages::Refusal;
 use messages::RunId;
 use records::find::Found;
 ghost use mathlib.Core.Path.{_≡_};
 ghost use lib.Dec.{ltb};
-ghost use Rattle.receiving.specs.AtRecord.{admissionOf, placeRule, admissionRule};
+ghost use Rattle.receiving.specs.AtRecord.{laterAt, admissionOf, placeRule, admissionRule};
 
 // The place of the car's record, or a refusal.
 pub enum Admission {
@@ -43,5 +44,26 @@ pub fn place_for(run: RunId, found: Found, left: u32) -> Admission
         Admission::Refused(Refusal::EmptyRun)
     } else {
         place(found, left)
+    }
+}
+
+// Whether a PARM.REQ restarts the car's own record.
+fn is_restart(found: Found) -> bool
+    ensures { λ b. ⌜ b ≡ laterAt Edition.Sae found ⌝ }
+{
+    match found {
+        Found::Own(_) => true,
+        Found::Free(_) => false,
+        Found::Nothing => false,
+    }
+}
+
+// Whether a PARM.REQ makes a later try: where it restarts the car's own record, in the SAE edition.
+pub fn is_later(edition: Edition, found: Found) -> bool
+    ensures { λ b. ⌜ b ≡ laterAt edition found ⌝ }
+{
+    match edition {
+        Edition::Iso => false,
+        Edition::Sae => is_restart(found),
     }
 }

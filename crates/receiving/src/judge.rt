@@ -10,24 +10,22 @@ use records::requests::RunMessage;
 use rules::Configuration;
 use rules::LEAST_OUTPUT;
 use rules::State;
-ghost use Prim.Native.Nat.{ℕ};
 ghost use mathlib.Core.Path.{_≡_};
 ghost use mathlib.Core.Bool.{_&&_};
-ghost use mathlib.Core.List.{List};
 ghost use Rattle.messages.specs.Answers.{messageOf};
-ghost use Rattle.messages.specs.Reading.{groupsOf, readRules};
+ghost use Rattle.messages.specs.Reading.{Beside, besideOf, readRules};
 ghost use Rattle.rules.specs.Received.{notUs};
 ghost use Rattle.receiving.specs.Judge as rule;
 ghost use Rattle.receiving.specs.Judge.{requestOf, refusalIn, judgedOf, forUs, addressedRule, stateJudged, judgeRule};
 
-// What concerns a record that the car has: START, SOUND or RSP of a run, PROFILE, whose group values stand in the frame, or the second VALIDATE.REQ with its timer.
+// What concerns a record that the car has: START, SOUND or RSP of a run, PROFILE with its group count, whose values stand in the frame, or the second VALIDATE.REQ with its timer.
 pub enum OwnMessage {
     Run { run: RunId, message: RunMessage },
-    Profile,
+    Profile(usize),
     ValidateSecond(u8),
 }
 
-// What a car's frame asks for: PARM.REQ, a message at its own record, the first VALIDATE.REQ, whose answer looks at all records, the second with its timer, or MATCH.REQ.
+// What a car's frame asks for: PARM.REQ, a message at its own record, the first VALIDATE.REQ, whose answer looks at all records, the second with its timer, or MATCH.REQ, whose identifiers stand in the frame.
 pub enum Request {
     Parm(RunId),
     Own(OwnMessage),
@@ -80,7 +78,7 @@ fn of_run(run: RunId, message: RunMessage) -> Request
 
 // VALIDATE.REQ by its destination: the second goes to all, the first to one station.
 fn validate_req(config: Configuration, car: CarAddress, receiver: Receiver, timer: u8) -> Judged
-    ensures { λ j. ⌜ ((g : List ℕ) → judgedOf j g ≡ addressedRule config (messageOf (Message.ValidateReq car timer receiver) g)) ⌝ }
+    ensures { λ j. ⌜ ((b : Beside) → judgedOf j b ≡ addressedRule config (messageOf (config .edition) (Message.ValidateReq car timer receiver) b)) ⌝ }
 {
     let us = config.address;
     if receiver.0 == BROADCAST {
@@ -92,14 +90,14 @@ fn validate_req(config: Configuration, car: CarAddress, receiver: Receiver, time
 
 // By the message: 17 where only a car receives it, then 7.
 fn addressed(config: Configuration, message: Message) -> Judged
-    ensures { λ j. ⌜ ((g : List ℕ) → judgedOf j g ≡ addressedRule config (messageOf message g)) ⌝ }
+    ensures { λ j. ⌜ ((b : Beside) → judgedOf j b ≡ addressedRule config (messageOf (config .edition) message b)) ⌝ }
 {
     let us = config.address;
     let modem = config.modem;
     match message {
         Message::SlacParmReq { car, run } => for_us(config, true, car, Request::Parm(run)),
-        Message::StartAttenCharInd { car, run } => {
-            for_us(config, true, car, of_run(run, RunMessage::Start))
+        Message::StartAttenCharInd { car, attempt, run } => {
+            for_us(config, true, car, of_run(run, RunMessage::Start(attempt)))
         }
         Message::MnbcSoundInd {
             car,
@@ -123,9 +121,10 @@ fn addressed(config: Configuration, message: Message) -> Judged
             modem: source,
             station,
             car,
+            count,
         } => {
             let ours = (station.0 == us.0) & (source.0 == modem.0);
-            for_us(config, ours, car, Request::Own(OwnMessage::Profile))
+            for_us(config, ours, car, Request::Own(OwnMessage::Profile(count)))
         }
         _ => Judged::Refused(Refusal::OnlyForCars),
     }
@@ -133,7 +132,7 @@ fn addressed(config: Configuration, message: Message) -> Judged
 
 // Whether a request is MATCH.REQ.
 fn is_match(request: Request) -> bool
-    ensures { λ b. ⌜ ((g : List ℕ) → b ≡ rule.isMatch (requestOf request g)) ⌝ }
+    ensures { λ b. ⌜ ((x : Beside) → b ≡ rule.isMatch (requestOf request x)) ⌝ }
 {
     match request {
         Request::Match(_) => true,
@@ -146,7 +145,7 @@ fn is_match(request: Request) -> bool
 
 // Whether the state takes a request: Matching takes all, Joining MATCH.REQ only.
 fn takes(state: State, request: Request) -> bool
-    ensures { λ b. ⌜ ((g : List ℕ) → b ≡ rule.takes state (requestOf request g)) ⌝ }
+    ensures { λ b. ⌜ ((x : Beside) → b ≡ rule.takes state (requestOf request x)) ⌝ }
 {
     match state {
         State::Matching(_) => true,
@@ -162,7 +161,7 @@ fn takes(state: State, request: Request) -> bool
 
 // 8, where the state does not take the request.
 fn in_state(state: State, judged: Judged) -> Judged
-    ensures { λ j. ⌜ ((g : List ℕ) → judgedOf j g ≡ stateJudged state (judgedOf judged g)) ⌝ }
+    ensures { λ j. ⌜ ((b : Beside) → judgedOf j b ≡ stateJudged state (judgedOf judged b)) ⌝ }
 {
     let Judged::Taken { car: _, request } = judged else {
         return judged;
@@ -176,7 +175,7 @@ fn in_state(state: State, judged: Judged) -> Judged
 
 // All that needs no record, in its order.
 pub fn judge(config: Configuration, state: State, octets: &[u8], room: usize) -> Judged
-    ensures { λ j. ⌜ judgedOf j (groupsOf (readRules (now (octets .entry)))) ≡ judgeRule config state room (now (octets .entry)) ⌝ }
+    ensures { λ j. ⌜ judgedOf j (besideOf (readRules (config .edition) (now (octets .entry)))) ≡ judgeRule config state room (now (octets .entry)) ⌝ }
 {
     let good = config.good;
     if !good {
@@ -185,7 +184,8 @@ pub fn judge(config: Configuration, state: State, octets: &[u8], room: usize) ->
     if room < LEAST_OUTPUT {
         return Judged::Refused(Refusal::OutputTooShort);
     }
-    let answer = messages::read(octets);
+    let edition = config.edition;
+    let answer = messages::read(edition, octets);
     let ReadAnswer::Read(message) = answer else {
         return Judged::Refused(refusal_in(answer));
     };

@@ -80,7 +80,7 @@ returns-4 c =
     addressed-as (a .config) _ _ _ _ (a .message) _ _ (c .for-us4 .ensures) (c .before .of-run3 .ensures) (c .before .before .before .before .before .message4 .given .1) (λ g. refl)
 
 returns-5 : tie.Need-returns-5
-returns-5 c = λ g. c .validate-req .ensures g ∙ sym (ap (λ (m : Message). addressedRule (c .before .before .before .before .before .before .args .config) (messageOf m g)) (c .before .before .message5 .given .1))
+returns-5 c = let o = c .before .before .before .before .before .before .args .config in λ b. c .validate-req .ensures b ∙ sym (ap (λ (m : Message). addressedRule o (messageOf (o .edition) m b)) (c .before .before .message5 .given .1))
 
 returns-6 : tie.Need-returns-6
 returns-6 c =

@@ -12,7 +12,7 @@ enum-told : tie.Need-enum-told
 enum-told c = search needs
 
 returns : tie.Need-returns
-returns c = let r = c .before .before .args .r in refuses r _ _ (profile-elsewhere _ r (r .phase) (c .match .keys2))
+returns c = let a = c .before .before .args in refuses (a .r) _ _ (profile-elsewhere (a .edition) (a .count) _ (a .r) (a .r .phase) (c .match .keys2))
 
 groups-requires : tie.Need-groups-requires
 groups-requires c κs = search needs
@@ -21,7 +21,7 @@ profile-requires : tie.Need-profile-requires
 profile-requires c κs = search needs
 
 returns-2 : tie.Need-returns-2
-returns-2 c = let r = c .before .before .before .before .before .args .r in as-rule r _ _ _ (ap (λ (vs : List ℕ). profileRule vs r (r .phase)) (c .before .groups .ensures)) (c .profile .ensures)
+returns-2 c = let a = c .before .before .before .before .before .args in as-rule (a .r) _ _ _ (ap (λ (vs : List ℕ). profileRule (a .edition) (a .count) vs (a .r) (a .r .phase)) (c .before .groups .ensures)) (c .profile .ensures)
 
 pub profile-spec : {M : Type 1} → statement M
 profile-spec = tie.close (tie.spec enum-told returns groups-requires profile-requires returns-2)
