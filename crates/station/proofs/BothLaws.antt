@@ -16,7 +16,7 @@ use Rattle.rules.specs.Ticks.{tickFrames, framesOfAll, allFrames}
 use Rattle.ends.proofs.ListLaws.{joins-append}
 use Rattle.records.specs.Timers.{tickReplies}
 use Rattle.records.proofs.TimerLaws.{sends-tick, frames-sent}
-use Rattle.station.specs.Reports.{reportSize, confirmationSize, Ready, Sent, Confirmable}
+use Rattle.station.specs.Reports.{reportSize, confirmationSize, Ready, Sent, Confirmable, Confirms}
 use Rattle.station.proofs.SpliceLaws.{splice-lent, splice-then}
 
 module _ (o : Configuration) (b : Bool) (e : ℕ) where
@@ -41,14 +41,14 @@ module _ (o : Configuration) (b : Bool) (e : ℕ) where
   pub reports-few : (rs : List Record) → length (framesOfAll isReport o b e rs) ≤ length rs
   reports-few rs = omega (arith, both-few rs)
 
--- the reports are written, k of them
-module _ (o : Configuration) (b : Bool) (e : ℕ) (rs : List Record) (entry out : List ℕ) (k : ℕ) (ready : Ready o rs entry) (w : Sent reportSize (framesOfAll isReport o b e rs) entry out k) (long : length out ≡ length entry) where
+-- the reports are written, k of them, of m octets in all
+module _ (o : Configuration) (b : Bool) (e : ℕ) (rs : List Record) (entry out : List ℕ) (k m : ℕ) (ready : Ready o rs entry) (w : Sent (framesOfAll isReport o b e rs) entry out k m) (few : m ≤ reportSize * k) (long : length out ≡ length entry) where
   -- they fit
-  pub from-fits : reportSize * k ≤ length out
+  pub from-fits : m ≤ length out
   from-fits = omega (arith, w .count, reports-few o b e rs, ready .room)
 
   -- and the confirmations fit behind them
-  pub confirmable : Confirmable o b e rs (take (length out - reportSize * k) (drop (reportSize * k) out))
+  pub confirmable : Confirmable o b e rs (take (length out - m) (drop m out))
   confirmable = record {
     address = ready .address;
     good = ready .good;
@@ -56,7 +56,7 @@ module _ (o : Configuration) (b : Bool) (e : ℕ) (rs : List Record) (entry out 
   }
 
   -- the confirmations are written behind them, n of them
-  module _ (ys : List ℕ) (n : ℕ) (v : Sent confirmationSize (framesOfAll isConfirmation o b e rs) (take (length out - reportSize * k) (drop (reportSize * k) out)) ys n) where
+  module _ (ys : List ℕ) (n : ℕ) (v : Confirms o b e rs (take (length out - m) (drop m out)) ys n) where
     -- so many frames in all
     pub both-count : k + n ≡ length (allFrames o b e rs)
     unfolding allFrames
@@ -70,14 +70,14 @@ module _ (o : Configuration) (b : Bool) (e : ℕ) (rs : List Record) (entry out 
     unfolding allFrames
     both-joined = joins-append (λ (f : List ℕ). f) (framesOfAll isReport o b e rs) (framesOfAll isConfirmation o b e rs)
 
-    pub both-size : reportSize * k + confirmationSize * n ≡ length (joined (allFrames o b e rs))
+    pub both-size : m + confirmationSize * n ≡ length (joined (allFrames o b e rs))
     both-size = omega (arith, w .size, v .size, ap length both-joined, length-append (joined (framesOfAll isReport o b e rs)) (joined (framesOfAll isConfirmation o b e rs)))
 
-    pub both-long : length ys ≡ length (take (length out - reportSize * k) (drop (reportSize * k) out)) → length (putMid (reportSize * k) (length out - reportSize * k) out ys) ≡ length entry
-    both-long len = same-len-mid (reportSize * k) (length out - reportSize * k) out ys len ∙ long
+    pub both-long : length ys ≡ length (take (length out - m) (drop m out)) → length (putMid m (length out - m) out ys) ≡ length entry
+    both-long len = same-len-mid m (length out - m) out ys len ∙ long
 
-    pub both-octets : putMid (reportSize * k) (length out - reportSize * k) out ys ≡ splice 0 (joined (allFrames o b e rs)) entry
+    pub both-octets : putMid m (length out - m) out ys ≡ splice 0 (joined (allFrames o b e rs)) entry
     both-octets =
-        splice-then entry out _ (joined (framesOfAll isReport o b e rs)) (joined (framesOfAll isConfirmation o b e rs)) 0 (reportSize * k) (omega (arith, w .size)) (omega arith) (w .octets)
-        (splice-lent out (joined (framesOfAll isConfirmation o b e rs)) ys (reportSize * k) from-fits (v .octets))
+        splice-then entry out _ (joined (framesOfAll isReport o b e rs)) (joined (framesOfAll isConfirmation o b e rs)) 0 m (omega (arith, w .size)) (omega arith) (w .octets)
+        (splice-lent out (joined (framesOfAll isConfirmation o b e rs)) ys m from-fits (v .octets))
         ∙ ap (λ (x : List ℕ). splice 0 x entry) (sym both-joined)

@@ -3,6 +3,7 @@ use Prim.Native.Nat.{ℕ, _+_, _*_, _-_, _≤_, _<_}
 use mathlib.Core.Path.{_≡_, sym, ap, _∙_, subst}
 use mathlib.Core.Bool.{Bool, true}
 use mathlib.Core.List.{List, [], _∷_}
+use native.Mathlib.Omega.{arith}
 use lib.ListN.{length, take, drop, getD}
 use borrow.Rule.Slice.PartMut.{putMid}
 use Rattle.messages.specs.Table.{resultLimit}
@@ -24,7 +25,7 @@ use Rattle.station.proofs.SentLoopLaws.{Sending, send-quiet, send-room,
 
 -- after i records of l: their confirmations are written over the output at entry
 abbrev pub Confirming : Configuration → Bool → ℕ → List Record → List ℕ → List ℕ → ℕ → ℕ → Type 0
-Confirming o b e l entry out k i = Sending (tickFrames isConfirmation o b e) confirmationSize l entry out k i
+Confirming o b e l entry out k i = Sending (tickFrames isConfirmation o b e) confirmationSize l entry out k (confirmationSize * k) i
 
 -- a turn: the record at i, and what the code found to confirm
 module _ (o : Configuration) (b : Bool) (e : ℕ) (l : List Record) (entry out : List ℕ) (k i : ℕ) (w : Confirming o b e l entry out k i) (z : Record) (h : i < length l)
@@ -35,7 +36,7 @@ module _ (o : Configuration) (b : Bool) (e : ℕ) (l : List Record) (entry out :
 
   -- nothing
   pub confirm-none : x ≡ code.Nothing → Confirming o b e l entry out k (i + 1)
-  confirm-none q = send-quiet (tickFrames isConfirmation o b e) confirmationSize l entry out k i w z h (confirms code.Nothing q)
+  confirm-none q = send-quiet (tickFrames isConfirmation o b e) confirmationSize l entry out k (confirmationSize * k) i w z h (confirms code.Nothing q)
 
   -- the toggles n with the result m
   module _ (ready : Confirmable o b e l entry) (n m : ℕ) (q : x ≡ code.Cnf n m) where
@@ -45,7 +46,7 @@ module _ (o : Configuration) (b : Bool) (e : ℕ) (l : List Record) (entry out :
     -- they can be sent
     pub confirm-sendable : Sendable o (getD l i z)
     confirm-sendable =
-        let good : GoodRecord (getD l i z) = all-at GoodRecord l i z (ready .good) h in
+        let good : GoodRecord (o .edition) (getD l i z) = all-at (GoodRecord (o .edition)) l i z (ready .good) h in
         record { address = ready .address; car = good .car (sending-held isConfirmation b e (getD l i z) (ap anySent told)); good = good }
 
     -- with a result that the message can have
@@ -54,14 +55,16 @@ module _ (o : Configuration) (b : Bool) (e : ℕ) (l : List Record) (entry out :
 
     -- and have room
     pub confirm-room : confirmationSize * k + confirmationSize ≤ length out
-    confirm-room = send-room (tickFrames isConfirmation o b e) confirmationSize l entry out k i w z h _ (confirms _ q) (ready .room)
+    confirm-room = send-room (tickFrames isConfirmation o b e) confirmationSize l entry out k (confirmationSize * k) i w z h _ (confirms _ q) (ready .room)
 
     pub confirm-part : confirmationSize ≤ length (take (length out - confirmationSize * k) (drop (confirmationSize * k) out))
-    confirm-part = part-room (tickFrames isConfirmation o b e) confirmationSize l entry out k i w z h _ (confirms _ q) (ready .room)
+    confirm-part = part-room (tickFrames isConfirmation o b e) confirmationSize l entry out k (confirmationSize * k) i w z h _ (confirms _ q) (ready .room)
 
     -- they were written
     pub confirm-one : (ys : List ℕ)
         → Writes confirmationSize (frameTo o (getD l i z .car) (confirmation n m)) (take (length out - confirmationSize * k) (drop (confirmationSize * k) out)) ys
         → length ys ≡ length (take (length out - confirmationSize * k) (drop (confirmationSize * k) out))
         → Confirming o b e l entry (putMid (confirmationSize * k) (length out - confirmationSize * k) out ys) (k + 1) (i + 1)
-    confirm-one ys wrote len = send-one (tickFrames isConfirmation o b e) confirmationSize l entry out k i w z h _ (confirms _ q) (ready .room) ys wrote len
+    confirm-one ys wrote len =
+        subst (λ (x : ℕ). Sending (tickFrames isConfirmation o b e) confirmationSize l entry (putMid (confirmationSize * k) (length out - confirmationSize * k) out ys) (k + 1) x (i + 1)) (let one : confirmationSize * k + confirmationSize ≡ confirmationSize * (k + 1) = omega arith in one)
+        (send-one (tickFrames isConfirmation o b e) confirmationSize l entry out k (confirmationSize * k) i w z h _ (confirms _ q) (ready .room) ys confirmationSize wrote (omega arith) len)

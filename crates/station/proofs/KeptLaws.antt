@@ -1,61 +1,62 @@
 -- What a message at a record leaves is a good record, as its car's own.
-use Prim.Native.Nat.{ℕ}
+use Prim.Native.Nat.{ℕ, _+_}
 use mathlib.Core.Path.{_≡_, sym, subst}
 use mathlib.Core.Bool.{true}
 use mathlib.Core.List.{List, [], _∷_}
+use native.Mathlib.Omega.{arith}
 use Rattle.messages.specs.declared.CarAddress.{CarAddress}
-use Rattle.octets.specs.Octets.{Octets}
-use Rattle.messages.specs.Reading.{Checked, no, yes, groupsOf, readRules}
+use Rattle.messages.specs.declared.Edition.{Edition}
+use Rattle.messages.specs.declared.RunId.{RunId}
+use Rattle.messages.specs.Reading.{Checked, no, yes, check, Beside}
 use Rattle.messages.specs.Table.{isUnicast}
-use Rattle.messages.specs.Table as table
 use Rattle.rules.specs.declared.Record.{Record}
 use Rattle.rules.specs.Received.{forRecord}
-use Rattle.rules.specs.Records.{owned}
-use Rattle.rules.specs.Frames.{Kept, Change, putBack}
+use Rattle.rules.specs.FromOctets.{OctetRequest}
+use Rattle.rules.specs.Records.{sameRun, owned, inPhase, counted}
+use Rattle.rules.specs.Frames.{Kept, Change, putBack, startRule, soundRule, rspRule}
 use Rattle.rules.specs.Invariant.{GoodRecord}
 use Rattle.rules.proofs.InvariantKept.{change-good}
-use Rattle.ends.proofs.Logic.{OnYes}
-use Rattle.rules.proofs.ReadingLaws.{OctetMessage, none-octets, read-octets}
-use Rattle.rules.proofs.ReceivedLaws.{OctetRequest}
+use Rattle.rules.proofs.PhaseLaws.{on-start, on-sound, on-profile, on-rsp, on-second}
+use Rattle.ends.proofs.Logic.{OnYes, on-check}
 use Rattle.records.specs.declared.requests.Kept as code
 use Rattle.records.specs.declared.requests.RunMessage.the-variants.{Start, Sound, Rsp}
 use Rattle.records.specs.Requests.{effectOf, Keeps}
 use Rattle.receiving.specs.declared.judge.OwnMessage.{OwnMessage}
 use Rattle.receiving.specs.declared.judge.OwnMessage.the-variants.{Run, Profile, ValidateSecond}
 use Rattle.receiving.specs.Judge.{ownMessageOf}
-use Rattle.receiving.specs.AtRecord.{ownRule, TimerFits}
-use Rattle.station.specs.Frames.{KeepsGood}
+use Rattle.receiving.specs.AtRecord.{ownRule}
+use Rattle.station.specs.Frames.{Counted, KeepsGood}
 use Rattle.station.proofs.OwnLaws.{change-own}
 
--- the group values of what was read
-groups-in : (x : Checked table.Message) → OnYes OctetMessage x → Octets (groupsOf x)
-groups-in (no n) h = none-octets
-groups-in (yes m) h = h .0
+-- what is sent, and the profiles counted
+abbrev CountedIn : Kept → Type 0
+CountedIn k = Counted (k .replies) (k .kept .profiles)
 
--- the group values of a frame of octets are octets
-pub octet-groups : (s : List ℕ) → Octets s → Octets (groupsOf (readRules s))
-octet-groups s o = groups-in (readRules s) (read-octets s o)
+-- of a message of a run
+run-counted : (run : RunId) (r : Record) (x : Checked Kept) → OnYes CountedIn x → OnYes CountedIn (check (sameRun run (r .run)) 11 x)
+run-counted run r x h = on-check CountedIn (sameRun run (r .run)) 11 x (λ q. h)
 
--- so a message at a record has octets for its group values and its timer
-octet-message : (m : OwnMessage) (g : List ℕ) → Octets g → TimerFits m → OctetRequest (forRecord (ownMessageOf m g))
-octet-message (Run run Start) g o t = tt
-octet-message (Run run (Sound k)) g o t = tt
-octet-message (Run run Rsp) g o t = tt
-octet-message Profile g o t = o
-octet-message (ValidateSecond timer) g o t = t
+-- a record that a message leaves with something sent counts some profile
+own-counted : (e : Edition) (m : OwnMessage) (b : Beside) (r : Record) → OnYes CountedIn (ownRule e m b r)
+unfolding counted inPhase
+own-counted e (Run run (Start a)) b r = run-counted run r (startRule e (a .0) r (r .phase)) (on-start CountedIn e r (a .0) (r .phase) (λ t q. tt) (λ t q. tt))
+own-counted e (Run run (Sound k)) b r = run-counted run r (soundRule e k r (r .phase)) (on-sound CountedIn e r k (r .phase) (λ p q. tt))
+own-counted e (Run run Rsp) b r = run-counted run r (rspRule r (r .phase)) (on-rsp CountedIn e r (r .phase) (λ t n q. tt))
+own-counted e (Profile n) b r = on-profile CountedIn e r n (b .groups) (r .phase) (λ t q f a. omega arith) (λ t q f a. tt)
+own-counted e (ValidateSecond timer) b r = on-second CountedIn e r timer (r .phase) (λ t q. tt)
 
--- the record that is put back
-put-good : (c : CarAddress) (x : Checked Kept) → OnYes (λ (y : Change). GoodRecord (owned c (y .kept))) (putBack x) → KeepsGood c x
-put-good c (no n) h = tt
-put-good c (yes k) h = h
+-- what a message at a good record leaves
+module _ (e : Edition) (c : CarAddress) (u : isUnicast (c .0) ≡ true) where
+  put-good : (x : Checked Kept) → OnYes (λ (y : Change). GoodRecord e (owned c (y .kept))) (putBack x) → OnYes CountedIn x → KeepsGood e c x
+  put-good (no n) h k = tt
+  put-good (yes x) h k = (h, k)
 
--- every message at a good record
-own-good : (c : CarAddress) (m : OwnMessage) (g : List ℕ) (r : Record) → isUnicast (c .0) ≡ true → GoodRecord r → Octets g → TimerFits m → KeepsGood c (ownRule m g r)
-own-good c m g r u h o t =
-    put-good c (ownRule m g r)
-    (subst (OnYes (λ (y : Change). GoodRecord (owned c (y .kept)))) (change-own c m g 0 0 0 (r ∷ [])) (change-good c u (r ∷ []) (h, tt) (ownMessageOf m g) (octet-message m g o t) 0 0 0))
+  own-good : (m : OwnMessage) (b : Beside) (r : Record) → GoodRecord e r → OctetRequest e (forRecord (ownMessageOf m b)) → KeepsGood e c (ownRule e m b r)
+  own-good m b r h o =
+      put-good (ownRule e m b r)
+      (subst (OnYes (λ (y : Change). GoodRecord e (owned c (y .kept)))) (change-own e c m b 0 0 0 (r ∷ [])) (change-good e c u (r ∷ []) (h, tt) (ownMessageOf m b) o 0 0 0))
+      (own-counted e m b r)
 
--- as the code gives it
-pub kept-good : (c : CarAddress) (m : OwnMessage) (s : List ℕ) (r : Record) (k : code.Kept) → Keeps r (ownRule m (groupsOf (readRules s)) r) k × TimerFits m → isUnicast (c .0) ≡ true → GoodRecord r → Octets s
-    → KeepsGood c (effectOf (k .kept) (k .effect))
-kept-good c m s r k w u h o = subst (KeepsGood c) (sym (w .0 .effect)) (own-good c m (groupsOf (readRules s)) r u h (octet-groups s o) (w .1))
+  -- as the code gives it
+  pub kept-good : (m : OwnMessage) (b : Beside) (r : Record) (k : code.Kept) → Keeps r (ownRule e m b r) k → GoodRecord e r → OctetRequest e (forRecord (ownMessageOf m b)) → KeepsGood e c (effectOf (k .kept) (k .effect))
+  kept-good m b r k w h o = subst (KeepsGood e c) (sym (w .effect)) (own-good m b r h o)

@@ -6,7 +6,8 @@ use denote.Enum.Declared.{tagOf}
 use types.Run.{OneOf, miss}
 use lib.ListN.{getD, set}
 use Rattle.messages.specs.declared.CarAddress.{CarAddress}
-use Rattle.messages.specs.Reading.{Checked, no, yes}
+use Rattle.messages.specs.declared.Edition.{Edition}
+use Rattle.messages.specs.Reading.{Checked, no, yes, Beside}
 use Rattle.ends.specs.declared.Indication.the-variants as indication
 use Rattle.rules.specs.declared.Record.{Record}
 use Rattle.rules.specs.declared.State.{State}
@@ -34,22 +35,22 @@ use Rattle.receiving.proofs.JudgeLaws.{no-yes}
 use Rattle.station.specs.Frames.{settled, ownPlace}
 
 -- a message at the car's own record comes to the rule f there, whatever else is looked at
-abbrev pub AtOwn : CarAddress → RecordMessage → ℕ → (Record → Checked Kept) → Type 0
-AtOwn c m result f = (a free : ℕ) (own : List Record) → changeRule c m a free result own ≡ putBack (atOwn own f)
+abbrev pub AtOwn : Edition → CarAddress → RecordMessage → ℕ → (Record → Checked Kept) → Type 0
+AtOwn e c m result f = (a free : ℕ) (own : List Record) → changeRule e c m a free result own ≡ putBack (atOwn own f)
 
 -- each of the code's messages, with any result
-pub change-own : (c : CarAddress) (m : OwnMessage) (g : List ℕ) (result : ℕ) → AtOwn c (ownMessageOf m g) result (ownRule m g)
+pub change-own : (e : Edition) (c : CarAddress) (m : OwnMessage) (b : Beside) (result : ℕ) → AtOwn e c (ownMessageOf m b) result (ownRule e m b)
 unfolding changeRule
-change-own c (Run run Start) g result a free own = refl
-change-own c (Run run (Sound k)) g result a free own = refl
-change-own c (Run run Rsp) g result a free own = refl
-change-own c Profile g result a free own = refl
-change-own c (ValidateSecond timer) g result a free own = refl
+change-own e c (Run run (Start t)) b result a free own = refl
+change-own e c (Run run (Sound k)) b result a free own = refl
+change-own e c (Run run Rsp) b result a free own = refl
+change-own e c (Profile n) b result a free own = refl
+change-own e c (ValidateSecond timer) b result a free own = refl
 
 -- the first VALIDATE.REQ, with its result
-pub change-first : (c : CarAddress) (result : ℕ) → AtOwn c validateFirst result (λ (r : Record). firstRule result r (r .phase))
+pub change-first : (e : Edition) (c : CarAddress) (result : ℕ) → AtOwn e c validateFirst result (λ (r : Record). firstRule result r (r .phase))
 unfolding changeRule
-change-first c result a free own = refl
+change-first e c result a free own = refl
 
 -- a report is the same of the car's own record
 report-owned : (c : CarAddress) (r : Record) → reportOf (owned c r) ≡ reportOf r
@@ -116,7 +117,7 @@ own-here s c i e =
     let w = placed (s .state) (placeOf c (s .records)) i e in
     record { state = w .0; own = found c (s .records) (placeOf c (s .records)) (Own i) refl (w .1) }
 
-module _ (s : Station) (c : CarAddress) (m : RecordMessage) (f : Record → Checked Kept) (at : AtOwn c m (firstResult (s .config .exempt) (s .records)) f) where
+module _ (s : Station) (c : CarAddress) (m : RecordMessage) (f : Record → Checked Kept) (at : AtOwn (s .config .edition) c m (firstResult (s .config .exempt) (s .records)) f) where
   -- by the car's records
   at-own : (a : ℕ) → s .state ≡ Matching a → (own : List Record) → mine c (s .records) ≡ own
       → stateRule (s .config) (s .state) (s .records) c (forRecord m) ≡ andThen (putBack (atOwn own f)) (λ (x : Change). yes (changed (s .config) (s .state) (s .records) c x))

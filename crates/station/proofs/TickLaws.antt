@@ -31,7 +31,7 @@ use Rattle.rules.specs.Invariant.{Invariant}
 use Rattle.ends.proofs.Logic.{clash}
 use Rattle.station.specs.declared.all_records.TickedRecords.{TickedRecords}
 use Rattle.station.specs.Steps.{doneAs, sharedAs, anew, Gives}
-use Rattle.station.specs.Reports.{reportSize, confirmationSize, Ready, Ticks, Confirms}
+use Rattle.station.specs.Reports.{confirmationSize, Ready, Ticks, Confirms}
 use Rattle.station.proofs.StepLaws.{framed, no-frames, gives-as}
 use Rattle.station.proofs.BothLaws.{both-count, both-size, both-octets}
 
@@ -118,10 +118,10 @@ admission-held (suc a) b rs fs h = refl
 
 -- the records ticked, their reports and then their confirmations written, which left the part behind the reports as ys
 module _ (s : Station) (t e a : ℕ) (b : Bool) (eb : b ≡ isB (s .pilot)) (k : TickedRecords) (entry out : List ℕ) (ready : Ready (s .config) (s .records) entry) (w : Ticks (s .config) b e (s .records) entry out k) (long : length out ≡ length entry)
-    (ys : List ℕ) (c : ℕ) (v : Confirms (s .config) b e (s .records) (take (length out - reportSize * k .reports) (drop (reportSize * k .reports) out)) ys c)
+    (ys : List ℕ) (c : ℕ) (v : Confirms (s .config) b e (s .records) (take (length out - k .octets) (drop (k .octets) out)) ys c)
     (left : ℕ) (el : left ≡ a - e) (none : Bool) (en : none ≡ noneHeld (k .records)) (n : Station) (r : Stepped) where
   abbrev behind : ℕ
-  behind = reportSize * k .reports
+  behind = k .octets
 
   -- the output at the end
   abbrev exit : List ℕ
@@ -143,9 +143,9 @@ module _ (s : Station) (t e a : ℕ) (b : Bool) (eb : b ≡ isB (s .pilot)) (k :
       ∙ ap (λ (rs : List Record). admissionDone (a - e) (noneHeld rs) rs fs) (w .records)
       ∙ ap (λ (h : Bool). admissionDone (a - e) (noneHeld (map (tickRecord h e) (s .records))) (map (tickRecord h e) (s .records)) (allFrames (s .config) h e (s .records))) eb)
       (framed s (s .pilot) t st (k .records) fs x n r (k .reports + c) (behind + confirmationSize * c) entry exit (p .0) (p .1)
-      (both-count (s .config) b e (s .records) entry out (k .reports) ready (w .sent) long ys c v)
-      (both-size (s .config) b e (s .records) entry out (k .reports) ready (w .sent) long ys c v)
-      (both-octets (s .config) b e (s .records) entry out (k .reports) ready (w .sent) long ys c v))
+      (both-count (s .config) b e (s .records) entry out (k .reports) (k .octets) ready (w .sent) (w .few) long ys c v)
+      (both-size (s .config) b e (s .records) entry out (k .reports) (k .octets) ready (w .sent) (w .few) long ys c v)
+      (both-octets (s .config) b e (s .records) entry out (k .reports) (k .octets) ready (w .sent) (w .few) long ys c v))
 
   -- admission is closed, and no record is held
   pub admission-ends : eqb left 0 && none ≡ true → Sends Unmatched NoLink → Gives (sharedAs s (s .pilot) t) (tickDone (s .config) (isB (s .pilot)) e (Matching a) (s .records)) entry exit r

@@ -3,19 +3,20 @@ use crate::reports;
 use records::timers;
 use rules::Configuration;
 use rules::RECORDS;
-use rules::REPORT_OCTETS;
 use rules::RecordArray;
 ghost use mathlib.Core.Path.{_≡_};
 ghost use Rattle.rules.specs.Records.{noneHeld};
 ghost use Rattle.station.specs.Reports.{Ready, Ticks};
 
-// The records after a tick, and how many reports they sent.
+// The records after a tick, how many reports they sent, and of how many octets in all.
 pub(crate) struct TickedRecords {
     pub records: RecordArray,
     pub reports: usize,
+    pub octets: usize,
 }
 
-// Every record after so many milliseconds, by whether the pilot is back at B; the reports stand back to back in record order.
+// Every record after so many milliseconds, by whether the pilot is back at B; the reports stand back to back in record order, each as long
+// as it is.
 pub(crate) fn tick_all(
     records: RecordArray,
     elapsed: u32,
@@ -28,6 +29,7 @@ pub(crate) fn tick_all(
 {
     let mut after = records;
     let mut sent: usize = 0;
+    let mut octets: usize = 0;
     let mut i: usize = 0;
     while i < RECORDS {
         let r = records[i];
@@ -35,8 +37,8 @@ pub(crate) fn tick_all(
         let next = t.after;
         after[i] = next;
         if t.reports {
-            let at = REPORT_OCTETS * sent;
-            reports::write_report(config, r, &mut out[at..]);
+            let report = reports::write_report(config, r, &mut out[octets..]);
+            octets = octets + report;
             sent = sent + 1;
         }
         i = i + 1;
@@ -44,6 +46,7 @@ pub(crate) fn tick_all(
     TickedRecords {
         records: after,
         reports: sent,
+        octets: octets,
     }
 }
 

@@ -19,8 +19,11 @@ fn confirm(config: Configuration, r: Record, toggles: u8, result: u8, out: &mut 
     ensures { λ _. ⌜ Writes confirmationSize (frameTo config (r .car) (confirmation toggles result)) (now (out .entry)) (now (out .exit)) ⌝ }
 {
     let car = r.car;
+    let edition = config.edition;
     let message = reply::validate_cnf(config, car, toggles, result);
-    messages::write(message, messages::no_groups(), out);
+    let groups = messages::no_groups();
+    let ids = messages::no_ids();
+    messages::write(edition, message, groups, ids, out);
 }
 
 // How many confirmations so many milliseconds send; they stand back to back in record order.

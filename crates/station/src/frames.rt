@@ -6,6 +6,7 @@ use crate::validating;
 use ends::Indication;
 use ends::JOINING_TIME;
 use messages::CarAddress;
+use messages::Ids;
 use messages::Refusal;
 use messages::RunId;
 use receiving::admission;
@@ -29,9 +30,10 @@ ghost use Prim.Native.Nat.{_<_};
 ghost use mathlib.Core.Path.{_≡_};
 ghost use mathlib.Core.List.{[], _∷_};
 ghost use lib.ListN.{length, set};
-ghost use Rattle.messages.specs.Reading.{yes, groupsOf, readRules};
+ghost use Rattle.messages.specs.Reading.{yes, besideOf, readRules};
 ghost use Rattle.rules.specs.Records.{owned, fresh};
 ghost use Rattle.rules.specs.Received.{forRecord, parmReq, validateFirst, matchReq};
+ghost use Rattle.rules.specs.FromOctets.{IsId, OctetRequest};
 ghost use Rattle.rules.specs.Frames.{keeps, stateRule};
 ghost use Rattle.rules.specs.Replies.{parmCnf, confirmation, framesTo};
 ghost use Rattle.rules.specs.Stations.{done};
@@ -53,15 +55,22 @@ fn with_record(records: RecordArray, i: usize, r: Record) -> RecordArray
     rs
 }
 
-// PARM.REQ at place i: the record anew, and PARM.CNF.
-fn admit(station: Station, i: usize, car: CarAddress, run: RunId, out: &mut [u8]) -> Stepped
+// PARM.REQ at place i: the record anew, in a first or a later try, and PARM.CNF.
+fn admit(
+    station: Station,
+    i: usize,
+    car: CarAddress,
+    later: bool,
+    run: RunId,
+    out: &mut [u8],
+) -> Stepped
     requires { ⌜ (i < length (station .records)) × Ready station car (now out) ⌝ }
-    ensures { λ r. ⌜ Comes station (yes (done (station .state) (set (station .records) i (owned car (fresh car run))) (framesTo (station .config) car (parmCnf run ∷ [])) Indication.Nothing)) (now (out .entry)) (now (out .exit)) r ⌝ }
+    ensures { λ r. ⌜ Comes station (yes (done (station .state) (set (station .records) i (owned car (fresh later car run))) (framesTo (station .config) car (parmCnf later run ∷ [])) Indication.Nothing)) (now (out .entry)) (now (out .exit)) r ⌝ }
 {
     let records = station.records;
-    let r = changes::owned(car, changes::fresh(car, run));
+    let r = changes::owned(car, changes::fresh(later, car, run));
     let next = with_record(records, i, r);
-    sending::parm_cnf(station, next, car, run, out)
+    sending::parm_cnf(station, next, car, later, run, out)
 }
 
 // PARM.REQ: 21, or the car's own record restarts; else 9, 10, or the first free record.
@@ -73,18 +82,21 @@ fn parm_req(station: Station, car: CarAddress, run: RunId, out: &mut [u8]) -> St
     let State::Matching(left) = state else {
         return answers::refused(station, Refusal::WrongState);
     };
+    let config = station.config;
+    let edition = config.edition;
     let records = station.records;
     let found = records::find::find(records, car);
+    let later = admission::is_later(edition, found);
     let admission = admission::place_for(run, found, left);
     match admission {
-        Admission::At(i) => admit(station, i, car, run, out),
+        Admission::At(i) => admit(station, i, car, later, run, out),
         Admission::Refused(refusal) => answers::refused(station, refusal),
     }
 }
 
 // What a message at the record at place i comes to: a refusal, the record put back, or its report too.
 fn settle(station: Station, i: usize, car: CarAddress, kept: Kept, out: &mut [u8]) -> Stepped
-    requires { ⌜ (i < length (station .records)) × Ready station car (now out) × KeepsGood car (effectOf (kept .kept) (kept .effect)) ⌝ }
+    requires { ⌜ (i < length (station .records)) × Ready station car (now out) × KeepsGood (station .config .edition) car (effectOf (kept .kept) (kept .effect)) ⌝ }
     ensures { λ r. ⌜ Comes station (settled station i car (effectOf (kept .kept) (kept .effect))) (now (out .entry)) (now (out .exit)) r ⌝ }
 {
     let left = kept.kept;
@@ -129,16 +141,18 @@ fn at_own(
     octets: &[u8],
     out: &mut [u8],
 ) -> Stepped
-    requires { ⌜ Ready station car (now out) ⌝ }
-    ensures { λ r. ⌜ Comes station (stateRule (station .config) (station .state) (station .records) car (forRecord (ownMessageOf message (groupsOf (readRules (now (octets .entry))))))) (now (out .entry)) (now (out .exit)) r ⌝ }
+    requires { ⌜ Ready station car (now out) × OctetRequest (station .config .edition) (forRecord (ownMessageOf message (besideOf (readRules (station .config .edition) (now octets))))) ⌝ }
+    ensures { λ r. ⌜ Comes station (stateRule (station .config) (station .state) (station .records) car (forRecord (ownMessageOf message (besideOf (readRules (station .config .edition) (now (octets .entry))))))) (now (out .entry)) (now (out .exit)) r ⌝ }
 {
+    let config = station.config;
+    let edition = config.edition;
     let state = station.state;
     let records = station.records;
     let place = own_place(state, records, car);
     match place {
         Admission::At(i) => {
             let r = records[i];
-            let kept = own_record::at_record(r, message, octets);
+            let kept = own_record::at_record(edition, r, message, octets);
             settle(station, i, car, kept, out)
         }
         Admission::Refused(refusal) => answers::refused(station, refusal),
@@ -190,9 +204,9 @@ fn validate_first(station: Station, car: CarAddress, out: &mut [u8]) -> Stepped
 }
 
 // MATCH.REQ in Matching: the car joins, and all records are freed.
-fn join(station: Station, car: CarAddress, run: RunId, out: &mut [u8]) -> Stepped
-    requires { ⌜ Ready station car (now out) ⌝ }
-    ensures { λ r. ⌜ Comes station (joinRule station car run) (now (out .entry)) (now (out .exit)) r ⌝ }
+fn join(station: Station, car: CarAddress, run: RunId, ids: Ids, out: &mut [u8]) -> Stepped
+    requires { ⌜ Ready station car (now out) × (IsId (station .config .edition) (ids .first) × IsId (station .config .edition) (ids .second)) ⌝ }
+    ensures { λ r. ⌜ Comes station (joinRule station car run (ids .first) (ids .second)) (now (out .entry)) (now (out .exit)) r ⌝ }
 {
     let records = station.records;
     let found = records::find::find(records, car);
@@ -209,19 +223,27 @@ fn join(station: Station, car: CarAddress, run: RunId, out: &mut [u8]) -> Steppe
                 car: car,
                 run: run,
             };
-            sending::match_cnf(station, joining, freeing::free_all(records), car, run, out)
+            sending::match_cnf(
+                station,
+                joining,
+                freeing::free_all(records),
+                car,
+                run,
+                ids,
+                out,
+            )
         }
     }
 }
 
 // MATCH.REQ: the car that waits for it joins; in Joining the same car and run are confirmed again.
-fn match_req(station: Station, car: CarAddress, run: RunId, out: &mut [u8]) -> Stepped
-    requires { ⌜ Ready station car (now out) ⌝ }
-    ensures { λ r. ⌜ Comes station (stateRule (station .config) (station .state) (station .records) car (matchReq run)) (now (out .entry)) (now (out .exit)) r ⌝ }
+fn match_req(station: Station, car: CarAddress, run: RunId, ids: Ids, out: &mut [u8]) -> Stepped
+    requires { ⌜ Ready station car (now out) × (IsId (station .config .edition) (ids .first) × IsId (station .config .edition) (ids .second)) ⌝ }
+    ensures { λ r. ⌜ Comes station (stateRule (station .config) (station .state) (station .records) car (matchReq run (ids .first) (ids .second))) (now (out .entry)) (now (out .exit)) r ⌝ }
 {
     let state = station.state;
     match state {
-        State::Matching(_) => join(station, car, run, out),
+        State::Matching(_) => join(station, car, run, ids, out),
         State::Joining {
             left: _,
             car: owner,
@@ -229,7 +251,7 @@ fn match_req(station: Station, car: CarAddress, run: RunId, out: &mut [u8]) -> S
         } => {
             if (car.0 == owner.0) & (run.0 == own.0) {
                 let records = station.records;
-                sending::match_cnf(station, state, records, car, run, out)
+                sending::match_cnf(station, state, records, car, run, ids, out)
             } else {
                 answers::refused(station, Refusal::NoRecord)
             }
@@ -246,9 +268,11 @@ pub(crate) fn accept(
     octets: &[u8],
     out: &mut [u8],
 ) -> Stepped
-    requires { ⌜ Ready station car (now out) ⌝ }
-    ensures { λ r. ⌜ Comes station (stateRule (station .config) (station .state) (station .records) car (requestOf request (groupsOf (readRules (now (octets .entry)))))) (now (out .entry)) (now (out .exit)) r ⌝ }
+    requires { ⌜ Ready station car (now out) × OctetRequest (station .config .edition) (requestOf request (besideOf (readRules (station .config .edition) (now octets)))) ⌝ }
+    ensures { λ r. ⌜ Comes station (stateRule (station .config) (station .state) (station .records) car (requestOf request (besideOf (readRules (station .config .edition) (now (octets .entry)))))) (now (out .entry)) (now (out .exit)) r ⌝ }
 {
+    let config = station.config;
+    let edition = config.edition;
     match request {
         Request::Parm(run) => parm_req(station, car, run, out),
         Request::Own(message) => at_own(station, car, message, octets, out),
@@ -256,6 +280,9 @@ pub(crate) fn accept(
         Request::ValidateSecond(timer) => {
             at_own(station, car, OwnMessage::ValidateSecond(timer), octets, out)
         }
-        Request::Match(run) => match_req(station, car, run, out),
+        Request::Match(run) => {
+            let ids = messages::identifiers(edition, octets);
+            match_req(station, car, run, ids, out)
+        }
     }
 }

@@ -3,6 +3,7 @@ use crate::answers;
 use ends::Indication;
 use messages::CarAddress;
 use messages::GroupValues;
+use messages::Ids;
 use messages::Message;
 use messages::RunId;
 use receiving::reply;
@@ -15,10 +16,11 @@ use rules::Stepped;
 ghost use mathlib.Core.List.{[], _∷_};
 ghost use Prim.Native.Nat.{_<_};
 ghost use lib.ListN.{length};
-ghost use Rattle.messages.specs.Answers.{messageOf};
+ghost use Rattle.messages.specs.Answers.{messageOf, besides};
 ghost use Rattle.messages.specs.Reading.{yes};
 ghost use Rattle.messages.specs.Table.{resultLimit};
 ghost use Rattle.messages.specs.Writing as writing;
+ghost use Rattle.rules.specs.FromOctets.{IsId};
 ghost use Rattle.rules.specs.Invariant.{GoodRecord};
 ghost use Rattle.rules.specs.Replies.{parmCnf, matchCnf, confirmation, reportOf, framesTo};
 ghost use Rattle.rules.specs.Stations.{done};
@@ -32,35 +34,41 @@ fn sent(
     records: RecordArray,
     message: Message,
     values: GroupValues,
+    ids: Ids,
     out: &mut [u8],
 ) -> Stepped
-    requires { ⌜ Writable (messageOf message values) (length (now out)) ⌝ }
-    ensures { λ r. ⌜ Comes station (yes (done state records (writing.frame (messageOf message values) ∷ []) Indication.Nothing)) (now (out .entry)) (now (out .exit)) r ⌝ }
+    requires { ⌜ Writable (messageOf (station .config .edition) message (besides values ids)) (length (now out)) ⌝ }
+    ensures { λ r. ⌜ Comes station (yes (done state records (writing.frame (messageOf (station .config .edition) message (besides values ids)) ∷ []) Indication.Nothing)) (now (out .entry)) (now (out .exit)) r ⌝ }
 {
+    let config = station.config;
+    let edition = config.edition;
     let pilot = station.pilot;
     let next = answers::anew(station, pilot, station.clock, state, records);
-    let answer = ends::send(message, values, Indication::Nothing, out);
+    let answer = ends::send(edition, message, values, ids, Indication::Nothing, out);
     Stepped {
         station: next,
         answer: answer,
     }
 }
 
-// PARM.CNF to a car, with the records after it.
+// PARM.CNF to a car in a first or a later try, with the records after it.
 pub(crate) fn parm_cnf(
     station: Station,
     records: RecordArray,
     car: CarAddress,
+    later: bool,
     run: RunId,
     out: &mut [u8],
 ) -> Stepped
     requires { ⌜ Ready station car (now out) ⌝ }
-    ensures { λ r. ⌜ Comes station (yes (done (station .state) records (framesTo (station .config) car (parmCnf run ∷ [])) Indication.Nothing)) (now (out .entry)) (now (out .exit)) r ⌝ }
+    ensures { λ r. ⌜ Comes station (yes (done (station .state) records (framesTo (station .config) car (parmCnf later run ∷ [])) Indication.Nothing)) (now (out .entry)) (now (out .exit)) r ⌝ }
 {
     let config = station.config;
     let state = station.state;
-    let message = reply::parm_cnf(config, car, run);
-    sent(station, state, records, message, messages::no_groups(), out)
+    let message = reply::parm_cnf(config, car, later, run);
+    let groups = messages::no_groups();
+    let ids = messages::no_ids();
+    sent(station, state, records, message, groups, ids, out)
 }
 
 // The report of a record to a car, with the records after it.
@@ -71,13 +79,15 @@ pub(crate) fn report(
     r: Record,
     out: &mut [u8],
 ) -> Stepped
-    requires { ⌜ Ready station car (now out) × GoodRecord r ⌝ }
+    requires { ⌜ Ready station car (now out) × (GoodRecord (station .config .edition) r × (0 < r .profiles)) ⌝ }
     ensures { λ x. ⌜ Comes station (yes (done (station .state) records (framesTo (station .config) car (reportOf r ∷ [])) Indication.Nothing)) (now (out .entry)) (now (out .exit)) x ⌝ }
 {
     let config = station.config;
     let state = station.state;
     let message = reply::report(config, car, r);
-    sent(station, state, records, message, report::values(r), out)
+    let values = report::values(r);
+    let ids = messages::no_ids();
+    sent(station, state, records, message, values, ids, out)
 }
 
 // VALIDATE.CNF with a result and no toggles to a car, with the records after it.
@@ -94,22 +104,26 @@ pub(crate) fn validate_cnf(
     let config = station.config;
     let state = station.state;
     let message = reply::validate_cnf(config, car, 0, result);
-    sent(station, state, records, message, messages::no_groups(), out)
+    let groups = messages::no_groups();
+    let ids = messages::no_ids();
+    sent(station, state, records, message, groups, ids, out)
 }
 
-// MATCH.CNF to a car, with the state and the records after it.
+// MATCH.CNF to a car with the identifiers of its request, with the state and the records after it.
 pub(crate) fn match_cnf(
     station: Station,
     state: State,
     records: RecordArray,
     car: CarAddress,
     run: RunId,
+    ids: Ids,
     out: &mut [u8],
 ) -> Stepped
-    requires { ⌜ Ready station car (now out) ⌝ }
-    ensures { λ r. ⌜ Comes station (yes (done state records (framesTo (station .config) car (matchCnf run ∷ [])) Indication.Nothing)) (now (out .entry)) (now (out .exit)) r ⌝ }
+    requires { ⌜ Ready station car (now out) × (IsId (station .config .edition) (ids .first) × IsId (station .config .edition) (ids .second)) ⌝ }
+    ensures { λ r. ⌜ Comes station (yes (done state records (framesTo (station .config) car (matchCnf run (ids .first) (ids .second) ∷ [])) Indication.Nothing)) (now (out .entry)) (now (out .exit)) r ⌝ }
 {
     let config = station.config;
     let message = reply::match_cnf(config, car, run);
-    sent(station, state, records, message, messages::no_groups(), out)
+    let groups = messages::no_groups();
+    sent(station, state, records, message, groups, ids, out)
 }

@@ -5,7 +5,6 @@ use crate::confirming;
 use crate::events;
 use ends::Indication;
 use rules::CONFIRMATION_OCTETS;
-use rules::REPORT_OCTETS;
 use rules::State;
 use rules::Station;
 use rules::Stepped;
@@ -71,7 +70,7 @@ fn matching(station: Station, reading: u32, elapsed: u32, time: u32, out: &mut [
     let ticked = all_records::tick_all(records, elapsed, back, config, out);
     let after = ticked.records;
     let reports = ticked.reports;
-    let from = REPORT_OCTETS * reports;
+    let from = ticked.octets;
     let confirmed = confirming::confirm_all(records, elapsed, back, config, &mut out[from..]);
     let octets = from + CONFIRMATION_OCTETS * confirmed;
     let frames = (reports + confirmed) as u8;

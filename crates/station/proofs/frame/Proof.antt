@@ -1,9 +1,9 @@
 -- `station::frame` meets its contract: what judging refuses, and what the request comes to.
-use Rattle.messages.specs.Reading.{Checked, groupsOf, readRules}
+use Rattle.messages.specs.Reading.{Checked, besideOf, readRules}
 use Rattle.rules.specs.Calls as calls
 use Rattle.ends.specs.Outcomes.{andThen}
 use Rattle.station.proofs.ComesLaws.{promised}
-use Rattle.receiving.proofs.JudgeLaws.{taken, frame-judged, judges}
+use Rattle.receiving.proofs.JudgeLaws.{taken, frame-judged, judged-octets, judges}
 use Rattle.station.proofs.StepLaws.{refuses}
 use Rattle.receiving.specs.Judge.{Asking, judgedOf}
 use Rattle.receiving.specs.declared.judge.Judged.{Judged}
@@ -29,16 +29,16 @@ accept-requires : tie.Need-accept-requires
 accept-requires c κs =
     let s = c .before .before .before .before .before .before .before .before in
     let a = s .args in
-    let g = groupsOf (readRules (a .octets .now)) in
+    let g = besideOf (readRules (a .station .config .edition) (a .octets .now)) in
     let judged = sym (c .before .before .before .before .judge .ensures) ∙ ap (λ (x : Judged). judgedOf x g) (c .before .before .judged2 .given .1) in
     let shown = judges (a .station .config) (a .station .state) (length (a .out .now)) (a .octets .now) _ judged in
-    record { good = shown .good; kept = s .pre; car = shown .car; room = shown .room }
+    (record { good = shown .good; kept = s .pre; car = shown .car; room = shown .room }, judged-octets (a .station .config) (a .station .state) (length (a .out .now)) (a .octets .now) _ (λ i. c .before .before .before .before .before .before .before .shared-slice-known .given i .fits) judged)
 
 returns : tie.Need-returns
 returns c =
     let s = c .before .before .before .before .before .before .before .before in
     let a = s .args in
-    let g = groupsOf (readRules (a .octets .now)) in
+    let g = besideOf (readRules (a .station .config .edition) (a .octets .now)) in
     let judged = sym (c .before .before .before .before .judge .ensures) ∙ ap (λ (x : Judged). judgedOf x g) (c .before .before .judged .given .1) in
     refuses (a .station) (calls.frame (a .octets .now) (length (a .out .now))) (s .pre) (c .refused .result) (a .out .now) _
     (frame-judged (a .station) (a .octets .now) (length (a .out .now)) ∙ ap (λ (w : Checked Asking). andThen w (taken (a .station))) judged) (c .refused .ensures)
@@ -50,7 +50,7 @@ returns-2 : tie.Need-returns-2
 returns-2 c =
     let s = c .before .before .before .before .before .before .before .before .before .before .before in
     let a = s .args in
-    let g = groupsOf (readRules (a .octets .now)) in
+    let g = besideOf (readRules (a .station .config .edition) (a .octets .now)) in
     let judged = sym (c .before .before .before .before .before .before .before .judge .ensures) ∙ ap (λ (x : Judged). judgedOf x g) (c .before .before .before .before .before .judged2 .given .1) in
     promised (a .station) (a .octets .now) (length (a .out .now)) _ (a .out .now) _ (c .before .before .accept .result) (s .pre) (λ i. c .before .before .before .before .before .before .before .before .before .before .shared-slice-known .given i .fits)
     (frame-judged (a .station) (a .octets .now) (length (a .out .now)) ∙ ap (λ (w : Checked Asking). andThen w (taken (a .station))) judged) (c .before .before .accept .ensures)

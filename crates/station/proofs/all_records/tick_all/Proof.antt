@@ -5,15 +5,15 @@ use native.Mathlib.Omega.{arith}
 use borrow.Author.Needs.{needs}
 use lib.ListN.{length}
 use Rattle.rules.proofs.IndexLaws.{passed}
-use Rattle.station.proofs.TickLoopLaws.{Ticking, tick-none, tick-all, tick-room, tick-part, tick-sendable, tick-waits, tick-reports}
+use Rattle.station.proofs.TickLoopLaws.{Ticking, tick-none, tick-all, tick-count, tick-room, tick-part, tick-sendable, tick-some, tick-waits, tick-reports}
 use Rattle.station.proofs.all_records.tick_all.Statement.{statement}
 use Rattle.station.proofs.all_records.tick_all.Tie as tie
 
 abbrev Inv-loop : tie.InvT-loop
-Inv-loop elapsed back config out₀ records after₀ sent₀ i₀ out after sent i = Ticking config back elapsed records out₀ out after sent i
+Inv-loop elapsed back config out₀ records after₀ sent₀ octets₀ i₀ out after sent octets i = Ticking config back elapsed records out₀ out after sent octets i
 
 abbrev μ-loop : tie.MeasureT-loop
-μ-loop elapsed back config out₀ records after₀ sent₀ i₀ out after sent i = length records - i
+μ-loop elapsed back config out₀ records after₀ sent₀ octets₀ i₀ out after sent octets i = length records - i
 
 loop-holds : tie.Need-loop-holds Inv-loop μ-loop
 loop-holds c = tick-none _ _ _ _ _
@@ -37,14 +37,11 @@ mul-after c = search needs
 array-set-from-after : tie.Need-array-set-from-after Inv-loop μ-loop
 array-set-from-after c = omega (arith, inside (c .before .before .before), c .before .before .before .before .loop .inv .records .long)
 
-mul-at : tie.Need-mul-at Inv-loop μ-loop
-mul-at c = omega (arith, tick-room _ _ _ _ _ _ _ _ _ (c .before .before .before .before .before .loop .inv) (inside (c .before .before .before .before)) (c .before .before .before .before .before .before .before .pre) _ _ (c .before .before .tick-record .ensures) (c .if1 .taken))
-
 sub-write-report : tie.Need-sub-write-report Inv-loop μ-loop
-sub-write-report c = omega (arith, tick-room _ _ _ _ _ _ _ _ _ (c .before .before .before .before .before .loop .inv) (inside (c .before .before .before .before)) (c .before .before .before .before .before .before .before .pre) _ _ (c .before .before .tick-record .ensures) (c .if1 .taken))
+sub-write-report c = omega (arith, tick-room _ _ _ _ _ _ _ _ _ _ (c .before .before .before .before .before .loop .inv) (inside (c .before .before .before .before)) (c .before .before .before .before .before .before .before .pre) _ _ (c .before .before .tick-record .ensures) (c .if1 .taken))
 
 part-write-report-start : tie.Need-part-write-report-start Inv-loop μ-loop
-part-write-report-start c = omega (arith, tick-room _ _ _ _ _ _ _ _ _ (c .before .before .before .before .before .loop .inv) (inside (c .before .before .before .before)) (c .before .before .before .before .before .before .before .pre) _ _ (c .before .before .tick-record .ensures) (c .if1 .taken))
+part-write-report-start c = omega (arith, tick-room _ _ _ _ _ _ _ _ _ _ (c .before .before .before .before .before .loop .inv) (inside (c .before .before .before .before)) (c .before .before .before .before .before .before .before .pre) _ _ (c .before .before .tick-record .ensures) (c .if1 .taken))
 
 part-write-report-end : tie.Need-part-write-report-end Inv-loop μ-loop
 part-write-report-end c = search needs
@@ -55,12 +52,15 @@ write-report-requires c κs =
     let w = c .before .before .before .before .before .before .loop .inv in
     let h = inside (c .before .before .before .before .before) in
     let t = c .before .before .before .tick-record in (
-      tick-sendable _ _ _ _ _ _ _ _ _ w h (s .pre) _ _ (t .ensures) (c .before .if1 .taken),
-      tick-part _ _ _ _ _ _ _ _ _ w h (s .pre) _ _ (t .ensures) (c .before .if1 .taken),
+      tick-sendable _ _ _ _ _ _ _ _ _ _ w h (s .pre) _ _ (t .ensures) (c .before .if1 .taken),
+      (tick-some _ _ _ _ _ _ _ _ _ _ w h (s .pre) _ _ (t .ensures) (c .before .if1 .taken), tick-part _ _ _ _ _ _ _ _ _ _ w h (s .pre) _ _ (t .ensures) (c .before .if1 .taken)),
     )
 
+add-octets : tie.Need-add-octets Inv-loop μ-loop
+add-octets c = omega (arith, tick-room _ _ _ _ _ _ _ _ _ _ (c .before .before .before .before .before .before .before .before .before .loop .inv) (inside (c .before .before .before .before .before .before .before .before)) (c .before .before .before .before .before .before .before .before .before .before .before .pre) _ _ (c .before .before .before .before .before .before .tick-record .ensures) (c .before .before .before .before .if1 .taken), c .before .before .write-report .ensures .1)
+
 add-sent : tie.Need-add-sent Inv-loop μ-loop
-add-sent c = omega (arith, tick-room _ _ _ _ _ _ _ _ _ (c .before .before .before .before .before .before .before .before .before .loop .inv) (inside (c .before .before .before .before .before .before .before .before)) (c .before .before .before .before .before .before .before .before .before .before .before .pre) _ _ (c .before .before .before .before .before .before .tick-record .ensures) (c .before .before .before .before .if1 .taken))
+add-sent c = omega (arith, tick-count _ _ _ _ _ _ _ _ _ _ (c .before .before .before .before .before .before .before .before .before .loop .inv) (inside (c .before .before .before .before .before .before .before .before)) (c .before .before .before .before .before .before .before .before .before .before .before .pre) _ _ (c .before .before .before .before .before .before .tick-record .ensures) (c .before .before .before .before .if1 .taken))
 
 add-i : tie.Need-add-i Inv-loop μ-loop
 add-i c = search needs
@@ -75,15 +75,15 @@ loop-again c =
     let h = inside (c .before .before .before .before) in
     let t = c .before .before .tick-record in
     ⊎-elim
-    (λ b. rw (b .5, b .6) (tick-reports _ _ _ _ _ _ _ _ _ w h (s .pre) _ _ (t .ensures) (b .0 .taken) (b .2 .last .1 .1 .0) (b .2 .ensures) (b .2 .kept .1 .1 .0)))
-    (λ b. rw (b .1, b .2) (tick-waits _ _ _ _ _ _ _ _ _ w h (s .pre) _ _ (t .ensures) (b .0 .left)))
+    (λ b. rw (b .5, b .6, b .7) (tick-reports _ _ _ _ _ _ _ _ _ _ w h (s .pre) _ _ (t .ensures) (b .0 .taken) (b .2 .last .1 .1 .0) (b .2 .result) (b .2 .ensures) (b .2 .kept .1 .1 .0)))
+    (λ b. rw (b .1, b .2, b .3) (tick-waits _ _ _ _ _ _ _ _ _ _ w h (s .pre) _ _ (t .ensures) (b .0 .left)))
     (c .if1 .came)
 
 same-length : tie.Need-same-length Inv-loop μ-loop
 same-length c = c .before .loop .inv .reports .long
 
 returns : tie.Need-returns Inv-loop μ-loop
-returns c = tick-all _ _ _ _ _ _ _ _ _ (c .before .loop .inv) (search (needs, passed))
+returns c = tick-all _ _ _ _ _ _ _ _ _ _ (c .before .loop .inv) (search (needs, passed))
 
 pub tick-all-spec : {M : Type 1} → statement M
 tick-all-spec =
@@ -97,11 +97,11 @@ tick-all-spec =
     tick-record-requires
     mul-after
     array-set-from-after
-    mul-at
     sub-write-report
     part-write-report-start
     part-write-report-end
     write-report-requires
+    add-octets
     add-sent
     add-i
     loop-less

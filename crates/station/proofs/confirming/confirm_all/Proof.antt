@@ -80,7 +80,7 @@ same-length : tie.Need-same-length Inv-loop μ-loop
 same-length c = c .before .loop .inv .long
 
 returns : tie.Need-returns Inv-loop μ-loop
-returns c = send-all _ _ _ _ _ _ _ (c .before .loop .inv) (search (needs, passed))
+returns c = send-all _ _ _ _ _ _ _ _ (c .before .loop .inv) (search (needs, passed))
 
 pub confirm-all-spec : {M : Type 1} → statement M
 confirm-all-spec =

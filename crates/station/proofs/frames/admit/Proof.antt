@@ -32,7 +32,7 @@ returns : tie.Need-returns
 returns c =
     let a = c .before .before .before .before .before .before .before .before .before .args in
     comes-as (a .station) _ _ (a .out .now) _ (c .before .before .parm-cnf .result)
-    (ap (λ (l : List Record). yes (done (a .station .state) l (framesTo (a .station .config) (a .car) (parmCnf (a .run) ∷ [])) Nothing))
+    (ap (λ (l : List Record). yes (done (a .station .state) l (framesTo (a .station .config) (a .car) (parmCnf (a .later) (a .run) ∷ [])) Nothing))
     (c .before .before .before .before .with-record .ensures ∙ ap (λ (r : Record). set (a .station .records) (a .i) r) (c .before .before .before .before .before .owned .ensures ∙ ap (owned (a .car)) (c .before .before .before .before .before .before .fresh .ensures))))
     (c .before .before .parm-cnf .ensures)
 

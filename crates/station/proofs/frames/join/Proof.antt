@@ -30,7 +30,7 @@ refused-requires : tie.Need-refused-requires
 refused-requires c κs = search needs
 
 returns : tie.Need-returns
-returns c = let a = c .before .before .before .before .before .args in comes-refused (a .station) _ NoRecord (a .out .now) (c .refused .result) (join-none (a .station) (a .car) (a .run) (not-own (a .car) (a .station .records) (c .before .before .find .result) (c .before .before .find .ensures) (c .before .match .keys2))) (c .refused .ensures)
+returns c = let a = c .before .before .before .before .before .args in comes-refused (a .station) _ NoRecord (a .out .now) (c .refused .result) (join-none (a .station) (a .car) (a .run) (a .ids .first) (a .ids .second) (not-own (a .car) (a .station .records) (c .before .before .find .result) (c .before .before .find .ensures) (c .before .match .keys2))) (c .refused .ensures)
 
 -- the place that was found
 here : (c : tie.After-known-told) → OwnAt (c .before .before .before .before .before .before .args .car) (c .before .before .before .before .before .before .args .station .records) (c .before .found .given .0 .0)
@@ -67,7 +67,7 @@ match-cnf-requires c κs = search needs
 returns-2 : tie.Need-returns-2
 returns-2 c =
     let a = c .before .before .before .before .before .before .before .before .before .before .before .before .args in
-    comes-refused (a .station) _ _ (a .out .now) (c .refused2 .result) (join-own (a .station) (a .car) (a .run) _ _ _ (here (c .before .before .before .before .before .before)) (sym (ap verdictOf (c .before .before .verdict .given .1)) ∙ c .before .before .before .before .match-req .ensures)) (c .refused2 .ensures)
+    comes-refused (a .station) _ _ (a .out .now) (c .refused2 .result) (join-own (a .station) (a .car) (a .run) (a .ids .first) (a .ids .second) _ _ _ (here (c .before .before .before .before .before .before)) (sym (ap verdictOf (c .before .before .verdict .given .1)) ∙ c .before .before .before .before .match-req .ensures)) (c .refused2 .ensures)
 
 same-length : tie.Need-same-length
 same-length c = search needs
@@ -76,8 +76,8 @@ returns-3 : tie.Need-returns-3
 returns-3 c =
     let a = c .before .before .before .before .before .before .before .before .before .before .before .before .before .before .before .args in
     comes-as (a .station) _ _ (a .out .now) _ (c .before .before .match-cnf .result)
-    (ap (λ (l : List Record). yes (confirmed (a .station .config) (Joining joiningTime (a .car) (a .run)) l (a .car) (a .run))) (c .before .before .before .before .free-all .ensures)
-    ∙ sym (join-own (a .station) (a .car) (a .run) _ _ (yes tt) (here (c .before .before .before .before .before .before .before .before .before)) (sym (ap verdictOf (c .before .before .before .before .before .enum-told .given .1)) ∙ c .before .before .before .before .before .before .before .match-req .ensures)))
+    (ap (λ (l : List Record). yes (confirmed (a .station .config) (Joining joiningTime (a .car) (a .run)) l (a .car) (a .run) (a .ids .first) (a .ids .second))) (c .before .before .before .before .free-all .ensures)
+    ∙ sym (join-own (a .station) (a .car) (a .run) (a .ids .first) (a .ids .second) _ _ (yes tt) (here (c .before .before .before .before .before .before .before .before .before)) (sym (ap verdictOf (c .before .before .before .before .before .enum-told .given .1)) ∙ c .before .before .before .before .before .before .before .match-req .ensures)))
     (c .before .before .match-cnf .ensures)
 
 pub join-spec : {M : Type 1} → statement M

@@ -2,6 +2,8 @@
 use Rattle.messages.specs.Reading.{yes}
 use Rattle.records.specs.Requests.{effectOf}
 use Rattle.records.specs.declared.requests.Effect.{Effect}
+use Prim.Native.Nat.{_<_}
+use Rattle.rules.specs.Records.{owned}
 use Rattle.rules.specs.Invariant.{GoodRecord}
 use Rattle.rules.specs.Replies.{reportOf, framesTo}
 use Rattle.rules.specs.Stations.{done}
@@ -45,10 +47,11 @@ with-record-requires-2 : tie.Need-with-record-requires-2
 with-record-requires-2 c κs = search needs
 
 report-requires : tie.Need-report-requires
+unfolding owned
 report-requires c κs =
     let s = c .before .before .before .before .before .before .before .before in
     let a = s .args in
-    (s .pre .1, subst GoodRecord (sym (c .before .before .before .before .owned .ensures)) (subst (λ (x : Effect). KeepsGood (a .car) (effectOf (a .kept .kept) x)) (c .before .before .enum-told2 .given .1) (s .pre .2)))
+    (s .pre .1, subst (λ (r : Record). GoodRecord (a .station .config .edition) r × (0 < r .profiles)) (sym (c .before .before .before .before .owned .ensures)) (subst (λ (x : Effect). KeepsGood (a .station .config .edition) (a .car) (effectOf (a .kept .kept) x)) (c .before .before .enum-told2 .given .1) (s .pre .2)))
 
 returns : tie.Need-returns
 returns c =

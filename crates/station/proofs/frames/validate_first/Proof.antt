@@ -61,7 +61,7 @@ returns c =
     let a = c .before .before .before .before .before .before .before .before .before .before .before .before .before .before .args in
     let x = firstResult (a .station .config .exempt) (a .station .records) in
     comes-as (a .station) _ _ (a .out .now) _ (c .before .before .confirm .result)
-    (own-settled (a .station) (a .car) validateFirst (λ (r : Record). firstRule x r (r .phase)) (change-first (a .car) x) _ _ _ (here (c .before .before .before .before .before .before .before) .state) (here (c .before .before .before .before .before .before .before) .own)
+    (own-settled (a .station) (a .car) validateFirst (λ (r : Record). firstRule x r (r .phase)) (change-first (a .station .config .edition) (a .car) x) _ _ _ (here (c .before .before .before .before .before .before .before) .state) (here (c .before .before .before .before .before .before .before) .own)
     (first-answered _ _ _ _ (c .before .before .before .before .validate-first .ensures .replies) (c .before .before .before .before .before .first-result .ensures))) (c .before .before .confirm .ensures)
 
 returns-2 : tie.Need-returns-2
@@ -69,7 +69,7 @@ returns-2 c =
     let a = c .before .before .before .before .before .before .before .before .args in
     let x = firstResult (a .station .config .exempt) (a .station .records) in
     comes-refused (a .station) _ _ (a .out .now) (c .refused .result)
-    (not-placed (a .station) (a .car) validateFirst (λ (r : Record). firstRule x r (r .phase)) (change-first (a .car) x) _ (sym (c .before .before .before .before .own-place .ensures) ∙ ap admissionOf (c .before .before .place2 .given .1))) (c .refused .ensures)
+    (not-placed (a .station) (a .car) validateFirst (λ (r : Record). firstRule x r (r .phase)) (change-first (a .station .config .edition) (a .car) x) _ (sym (c .before .before .before .before .own-place .ensures) ∙ ap admissionOf (c .before .before .place2 .given .1))) (c .refused .ensures)
 
 pub validate-first-spec : {M : Type 1} → statement M
 validate-first-spec =

@@ -35,7 +35,7 @@ sent-requires c κs =
     let s = c .before .before .before .before .before in
     let a = s .args in
     writable-as _ _ (length (a .out .now)) (c .before .before .match-cnf .ensures _)
-    (match-cnf-writable (a .station .config) (a .car) (length (a .out .now)) (s .pre .kept .config .address (s .pre .good)) (s .pre .car) (a .run) (run-fits s) (s .pre .kept .config .nid (s .pre .good)) (key-fits s .0) (key-fits s .1) (s .pre .room))
+    (match-cnf-writable (a .station .config) (a .car) (length (a .out .now)) (s .pre .0 .kept .config .address (s .pre .0 .good)) (s .pre .0 .car) (a .run) (a .ids .first) (a .ids .second) (s .pre .1 .0) (s .pre .1 .1) (run-fits s) (s .pre .0 .kept .config .nid (s .pre .0 .good)) (key-fits s .0) (key-fits s .1) (s .pre .0 .room))
 
 same-length : tie.Need-same-length
 same-length c = search needs

@@ -26,12 +26,15 @@ no-groups-requires c κs = search needs
 run-fits : (c : tie.Start) → c .args .run .0 < 2 ^ 64
 run-fits c = search needs
 
+no-ids-requires : tie.Need-no-ids-requires
+no-ids-requires c κs = search needs
+
 sent-requires : tie.Need-sent-requires
 sent-requires c κs =
-    let s = c .before .before .before .before .before in
+    let s = c .before .before .before .before .before .before in
     let a = s .args in
-    writable-as _ _ (length (a .out .now)) (c .before .before .parm-cnf .ensures _)
-    (parm-cnf-writable (a .station .config) (a .car) (length (a .out .now)) (s .pre .kept .config .address (s .pre .good)) (s .pre .car) (a .run) (run-fits s) (s .pre .room))
+    writable-as _ _ (length (a .out .now)) (c .before .before .before .parm-cnf .ensures _)
+    (parm-cnf-writable (a .station .config) (a .car) (length (a .out .now)) (s .pre .kept .config .address (s .pre .good)) (s .pre .car) (a .later) (a .run) (run-fits s) (s .pre .room))
 
 same-length : tie.Need-same-length
 same-length c = search needs
@@ -39,11 +42,11 @@ same-length c = search needs
 returns : tie.Need-returns
 unfolding frameTo
 returns c =
-    let a = c .before .before .before .before .before .before .before .before .args in
+    let a = c .before .before .before .before .before .before .before .before .before .args in
     comes-as (a .station) _ _ (a .out .now) _ (c .before .before .sent .result)
-    (ap (λ (m : table.Message). yes (done (a .station .state) (a .records) (writing.frame m ∷ []) Nothing)) (c .before .before .before .before .before .parm-cnf .ensures _))
+    (ap (λ (m : table.Message). yes (done (a .station .state) (a .records) (writing.frame m ∷ []) Nothing)) (c .before .before .before .before .before .before .parm-cnf .ensures _))
     (c .before .before .sent .ensures)
 
 pub parm-cnf-spec : {M : Type 1} → statement M
 parm-cnf-spec =
-    tie.close (tie.spec parm-cnf-requires no-groups-requires sent-requires same-length returns)
+    tie.close (tie.spec parm-cnf-requires no-groups-requires no-ids-requires sent-requires same-length returns)

@@ -15,7 +15,7 @@ same-length c = search needs
 
 returns : tie.Need-returns
 returns c =
-    let s = c .before .before .before .before .before .before in
+    let s = c .before .before .before .before .before .before .before in
     let sent = c .before .before .send in
     let next = c .before .before .before .before .anew in
     one-sent (s .args .station) (s .args .state) (s .args .records) _ (s .args .out .now) _ (next .result) (sent .result) (s .pre) (next .ensures) (sent .ensures)

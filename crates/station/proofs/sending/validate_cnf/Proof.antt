@@ -22,11 +22,14 @@ validate-cnf-requires c κs = search needs
 no-groups-requires : tie.Need-no-groups-requires
 no-groups-requires c κs = search needs
 
+no-ids-requires : tie.Need-no-ids-requires
+no-ids-requires c κs = search needs
+
 sent-requires : tie.Need-sent-requires
 sent-requires c κs =
-    let s = c .before .before .before .before .before in
+    let s = c .before .before .before .before .before .before in
     let a = s .args in
-    writable-as _ _ (length (a .out .now)) (c .before .before .validate-cnf .ensures _)
+    writable-as _ _ (length (a .out .now)) (c .before .before .before .validate-cnf .ensures _)
     (validate-cnf-writable (a .station .config) (a .car) (length (a .out .now)) (s .pre .0 .kept .config .address (s .pre .0 .good)) (s .pre .0 .car) 0 (a .result) (omega arith) (s .pre .1) (omega (arith, s .pre .0 .room)))
 
 same-length : tie.Need-same-length
@@ -35,11 +38,11 @@ same-length c = search needs
 returns : tie.Need-returns
 unfolding frameTo
 returns c =
-    let a = c .before .before .before .before .before .before .before .before .args in
+    let a = c .before .before .before .before .before .before .before .before .before .args in
     comes-as (a .station) _ _ (a .out .now) _ (c .before .before .sent .result)
-    (ap (λ (m : table.Message). yes (done (a .station .state) (a .records) (writing.frame m ∷ []) Nothing)) (c .before .before .before .before .before .validate-cnf .ensures _))
+    (ap (λ (m : table.Message). yes (done (a .station .state) (a .records) (writing.frame m ∷ []) Nothing)) (c .before .before .before .before .before .before .validate-cnf .ensures _))
     (c .before .before .sent .ensures)
 
 pub validate-cnf-spec : {M : Type 1} → statement M
 validate-cnf-spec =
-    tie.close (tie.spec validate-cnf-requires no-groups-requires sent-requires same-length returns)
+    tie.close (tie.spec validate-cnf-requires no-groups-requires no-ids-requires sent-requires same-length returns)
