@@ -1,17 +1,17 @@
--- The steps of the loop over runs of sums, and a spread out of its octets and into them.
-use Prim.Native.Nat.{ℕ, _+_, _≤_, _<_}
+-- The steps of the loops over a record's sums, and a spread out of its octets and into them.
+use Prim.Native.Nat.{ℕ, zero, suc, _+_, _≤_, _<_}
 use mathlib.Core.Path.{_≡_, refl, sym, ap, ap₂, _∙_}
 use mathlib.Core.List.{List, [], _∷_, _++_, map}
 use borrow.Rule.Slice.PartMut.{putMid}
 use native.Mathlib.Omega.{arith}
 use native.Mathlib.Numerals.{add-one}
-use lib.ListN.{length, getD, take, drop, set, length-set, length-take, length-drop, length-append}
+use lib.ListN.{length, getD, take, drop, set, length-set, length-take, length-drop, length-append, List·getD-eq-default}
 use lib.Seq.{sets, take-suc, take-suc-set, take-all, getD-drop, drop-drop, take-at, drop-at}
 use Rattle.octets.specs.Octets.{part}
 use Rattle.octets.proofs.OctetLaws.{part-take, sets-append, sets-whole, sets-lent}
 use Rattle.messages.specs.Table.{groupCount}
 use Rattle.rules.specs.declared.Spread.{Spread}
-use Rattle.words.specs.Words.{spreadWidth, spreadOf}
+use Rattle.words.specs.Words.{spreadWidth, onlyFirst, spreadOf}
 use Rattle.words.specs.Written.{spreadOctets}
 
 -- ---- a copy out of a slice, each element changed
@@ -47,6 +47,62 @@ module _ (f : ℕ → ℕ) where
   changed-end s at n r i c h =
       let e : i ≡ n = omega (arith, c .turns) in
       sym (take-all i r (omega (arith, c .size))) ∙ c .done ∙ ap (λ (k : ℕ). map f (part s at k)) e
+
+-- ---- the first of a list, and 0 for the others
+
+pub length-first : (g : ℕ) (s : List ℕ) → length (onlyFirst g s) ≡ length s
+unfolding onlyFirst
+length-first g [] = refl
+length-first zero (x ∷ s) = ap suc (length-first zero s)
+length-first (suc g) (x ∷ s) = ap suc (length-first g s)
+
+-- none is more than it was
+pub first-less : (g : ℕ) (s : List ℕ) (i : ℕ) → getD (onlyFirst g s) i 0 ≤ getD s i 0
+unfolding onlyFirst
+first-less g [] i = omega arith
+first-less zero (x ∷ s) zero = omega arith
+first-less zero (x ∷ s) (suc i) = first-less zero s i
+first-less (suc g) (x ∷ s) zero = omega arith
+first-less (suc g) (x ∷ s) (suc i) = first-less g s i
+
+-- the others are 0
+pub first-past : (g : ℕ) (s : List ℕ) (i : ℕ) → g ≤ i → getD (onlyFirst g s) i 0 ≡ 0
+unfolding onlyFirst
+first-past g [] i h = refl
+first-past zero (x ∷ s) zero h = refl
+first-past zero (x ∷ s) (suc i) h = first-past zero s i (omega arith)
+first-past (suc g) (x ∷ s) zero h = absurd (omega arith)
+first-past (suc g) (x ∷ s) (suc i) h = first-past g s i (omega arith)
+
+-- nothing changes where the others are 0
+pub first-back : (g : ℕ) (s : List ℕ) → ((i : ℕ) → g ≤ i → getD s i 0 ≡ 0) → onlyFirst g s ≡ s
+unfolding onlyFirst
+first-back g [] h = refl
+first-back zero (x ∷ s) h = ap₂ (λ (y : ℕ) (l : List ℕ). y ∷ l) (sym (h 0 (omega arith))) (first-back zero s (λ i k. h (suc i) (omega arith)))
+first-back (suc g) (x ∷ s) h = ap (λ (l : List ℕ). x ∷ l) (first-back g s (λ i k. h (suc i) (omega arith)))
+
+first-set : (i : ℕ) (s : List ℕ) → onlyFirst (suc i) (set s i 0) ≡ onlyFirst i s
+unfolding onlyFirst
+first-set i [] = refl
+first-set zero (x ∷ s) = refl
+first-set (suc i) (x ∷ s) = ap (λ (l : List ℕ). x ∷ l) (first-set i s)
+
+-- those from the first g to i are cleared
+pub record Cutting (s : List ℕ) (g n : ℕ) (r : List ℕ) (i : ℕ) : Type 0 where
+  pub size : length r ≡ n
+  pub left : onlyFirst i r ≡ onlyFirst g s
+
+module _ (s : List ℕ) (g n : ℕ) (r : List ℕ) (i : ℕ) (c : Cutting s g n r i) where
+  pub cutting-next : Cutting s g n (set r i 0) (i + 1)
+  cutting-next = record {
+    size = length-set r i 0 ∙ c .size;
+    left = ap (λ (k : ℕ). onlyFirst k (set r i 0)) (add-one i) ∙ first-set i r ∙ c .left;
+  }
+
+  pub cutting-end : n ≤ i → r ≡ onlyFirst g s
+  cutting-end h =
+      let past : (k : ℕ) → i ≤ k → getD r k 0 ≡ 0 = λ k b. let l : length r ≤ k = omega (arith, c .size) in List·getD-eq-default r 0 l in
+      sym (first-back i r past) ∙ c .left
 
 -- ---- a spread
 

@@ -1,6 +1,6 @@
 -- The head's words and the whole station: a station's own words are that station.
 use Prim.Native.Nat.{ℕ, _*_, _^_, _≤_, _<_, _%_}
-use mathlib.Core.Path.{_≡_, refl, sym, ap, ap₂, _∙_}
+use mathlib.Core.Path.{_≡_, refl, sym, ap, ap₂, subst, _∙_}
 use mathlib.Core.Bool.{true, _&&_}
 use mathlib.Core.List.{List}
 use native.Mathlib.Omega.{arith}
@@ -9,6 +9,8 @@ use lib.Dec.{eqb}
 use lib.ListN.{length, getD, set}
 use lib.Seq.{sets, set-out}
 use Rattle.messages.specs.Table.{groupCount}
+use Rattle.messages.specs.declared.Edition.{Edition}
+use Rattle.messages.specs.declared.Edition.the-variants.{Iso, Sae}
 use Rattle.rules.specs.declared.Configuration.{Configuration}
 use Rattle.rules.specs.declared.Pilot.{Pilot}
 use Rattle.rules.specs.declared.Pilot.the-variants.{A, B, C, D, E, F}
@@ -17,12 +19,13 @@ use Rattle.rules.specs.declared.State.{State}
 use Rattle.rules.specs.declared.State.the-variants.{Unmatched, Matching, Joining, Matched}
 use Rattle.rules.specs.declared.Station.{Station}
 use Rattle.rules.specs.Constants.{recordCount}
-use Rattle.rules.specs.Invariant.{GoodRecord, GoodConfiguration}
+use Rattle.rules.specs.Invariant.{GoodRecord, GoodConfiguration, Invariant}
+use Rattle.ends.specs.Lists.{All}
 use Rattle.rules.specs.Rules.{isGood}
-use Rattle.words.specs.Words.{headCount, wordCount, sumCount, spreadWidth, spreadCount, recordsOf, configOf, stateBy, stateOf, stationOf, withRecords}
-use Rattle.rules.specs.Numbers.{pilotOf}
+use Rattle.words.specs.Words.{headCount, wordCount, sumCount, spreadWidth, spreadCount, recordsOf, configOf, editionIn, stateBy, stateOf, stationOf, withRecords}
+use Rattle.rules.specs.Numbers.{pilotOf, editionOf}
 use Rattle.ends.specs.Words.{flagOf}
-use Rattle.words.specs.Written.{stateNumber, stateTime, stateCar, stateRun, pilotNumber, wordsOf, spreadOctets, headOf}
+use Rattle.words.specs.Written.{stateNumber, stateTime, stateCar, stateRun, pilotNumber, editionNumber, wordsOf, spreadOctets, headOf}
 use Rattle.ends.proofs.RunLaws.{getD-before, getD-front}
 use Rattle.words.proofs.CopyLaws.{Sized, length-spread}
 use Rattle.words.proofs.RecordWords.{place, length-records, record-put, flag-back, record-back}
@@ -37,7 +40,7 @@ SameHead v w = (j : ℕ) → j < headCount → getD v j 0 ≡ getD w j 0
 module _ (v w : List ℕ) (e : SameHead v w) where
   config-same : configOf v ≡ configOf w
   unfolding configOf
-  config-same = rw (e 0 (omega arith), e 1 (omega arith), e 2 (omega arith), e 3 (omega arith), e 4 (omega arith), e 5 (omega arith), e 12 (omega arith))
+  config-same = rw (e 0 (omega arith), e 1 (omega arith), e 2 (omega arith), e 3 (omega arith), e 4 (omega arith), e 5 (omega arith), e 12 (omega arith), e 13 (omega arith))
 
   state-same : stateOf v ≡ stateOf w
   state-same = rw (e 6 (omega arith), e 7 (omega arith), e 8 (omega arith), e 9 (omega arith))
@@ -52,7 +55,7 @@ module _ (v w : List ℕ) (e : SameHead v w) where
 
 -- ---- one record stored
 
-module _ (w s x : List ℕ) (i : ℕ) (r : Record) (g : GoodRecord r) where
+module _ (w s x : List ℕ) (i : ℕ) (r : Record) (g : GoodRecord (editionIn w) r) where
   -- inside
   pub stored : i < recordCount → length w ≡ wordCount → length s ≡ sumCount → length x ≡ spreadCount → length (r .sums) ≡ groupCount → Sized (r .spread)
       → (v t y : List ℕ) → v ≡ sets w (place i) (wordsOf r) → t ≡ sets s (groupCount * i) (r .sums) → y ≡ sets x (spreadWidth * i) (spreadOctets (r .spread))
@@ -63,7 +66,7 @@ module _ (w s x : List ℕ) (i : ℕ) (r : Record) (g : GoodRecord r) where
       (ap₂ (λ (a b : List ℕ). recordsOf a b y) ev et
       ∙ ap (recordsOf (sets w (place i) (wordsOf r)) (sets s (groupCount * i) (r .sums))) ey
       ∙ record-put w s x (wordsOf r) (r .sums) (spreadOctets (r .spread)) i h lw ls lx refl k (length-spread (r .spread) z)
-      ∙ ap (set (recordsOf w s x) i) (record-back r g z))
+      ∙ ap (set (recordsOf w s x) i) (record-back (editionIn w) r g z))
 
   -- past the last place
   pub not-stored : recordCount ≤ i → stationOf w s x ≡ withRecords (stationOf w s x) (set (recordsOf w s x) i r)
@@ -91,6 +94,11 @@ pilot-back D = refl
 pilot-back E = refl
 pilot-back F = refl
 
+edition-back : (e : Edition) → editionOf (editionNumber e) ≡ e
+unfolding editionOf
+edition-back Iso = refl
+edition-back Sae = refl
+
 -- the station of its head and its records
 pub station-back : (z : Station) (s x : List ℕ) → GoodConfiguration (z .config) → stateTime (z .state) < 2 ^ 32 → z .clock < 2 ^ 32
     → withRecords (stationOf (headOf (z .config) (z .state) (z .pilot) (z .clock)) s x) (z .records) ≡ z
@@ -101,20 +109,30 @@ station-back z s x g h k =
     let f : eqb (flagOf (o .exempt)) 1 ≡ o .exempt = flag-back (o .exempt) in
     let e : z .clock % 2 ^ 32 ≡ z .clock = omega arith in
     λ i. record {
-      config = record { good = b i; address = o .address; modem = o .modem; nid = o .nid; nmk = o .nmk; exempt = f i };
+      config = record { good = b i; address = o .address; modem = o .modem; nid = o .nid; nmk = o .nmk; exempt = f i; edition = edition-back (o .edition) i };
       state = state-back (z .state) h i;
       pilot = pilot-back (z .pilot) i;
       clock = e i;
       records = z .records;
     }
 
--- with that head stored, and then its records
-pub packed : (z : Station) (w s x v : List ℕ) (y : Station) → headCount ≤ length w → GoodConfiguration (z .config) → stateTime (z .state) < 2 ^ 32 → z .clock < 2 ^ 32
-    → v ≡ sets w 0 (headOf (z .config) (z .state) (z .pilot) (z .clock)) → y ≡ withRecords (stationOf v s x) (z .records) → y ≡ z
-unfolding headOf
-packed z w s x v y l g h k e f =
-    let head = headOf (z .config) (z .state) (z .pilot) (z .clock) in
-    let same : SameHead v head = λ j b. ap (λ (u : List ℕ). getD u j 0) e ∙ getD-front head w j 0 l b in
-    f
-    ∙ ap (λ (u : Station). withRecords u (z .records)) (station-same v head same s x s x (recordsOf v s x) refl)
-    ∙ station-back z s x g h k
+-- with that head stored
+module _ (z : Station) (w v : List ℕ) (l : headCount ≤ length w) (e : v ≡ sets w 0 (headOf (z .config) (z .state) (z .pilot) (z .clock))) where
+  same-head : SameHead v (headOf (z .config) (z .state) (z .pilot) (z .clock))
+  unfolding headOf
+  same-head j b = ap (λ (u : List ℕ). getD u j 0) e ∙ getD-front (headOf (z .config) (z .state) (z .pilot) (z .clock)) w j 0 l b
+
+  -- its records are good in the words' edition
+  pub records-good : Invariant z → All (GoodRecord (editionIn v)) (z .records)
+  unfolding configOf headOf
+  records-good k =
+      let same : editionIn v ≡ z .config .edition = ap editionOf (same-head 13 (omega arith)) ∙ edition-back (z .config .edition) in
+      subst (λ (x : Edition). All (GoodRecord x) (z .records)) (sym same) (k .records)
+
+  -- and then its records
+  pub packed : (s x : List ℕ) (y : Station) → GoodConfiguration (z .config) → stateTime (z .state) < 2 ^ 32 → z .clock < 2 ^ 32 → y ≡ withRecords (stationOf v s x) (z .records) → y ≡ z
+  packed s x y g h k f =
+      let head = headOf (z .config) (z .state) (z .pilot) (z .clock) in
+      f
+      ∙ ap (λ (u : Station). withRecords u (z .records)) (station-same v head same-head s x s x (recordsOf v s x) refl)
+      ∙ station-back z s x g h k

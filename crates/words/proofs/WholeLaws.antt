@@ -1,13 +1,17 @@
 -- The steps of the loops over all records, out of the words, sums and spread and into them.
 use Prim.Native.Nat.{ℕ, _+_, _≤_, _<_}
-use mathlib.Core.Path.{_≡_, refl, sym, ap, _∙_}
+use mathlib.Core.Path.{_≡_, refl, sym, ap, subst, _∙_}
 use mathlib.Core.List.{List}
 use native.Mathlib.Omega.{arith}
 use lib.ListN.{length, getD, take, set, length-set}
+use Rattle.messages.specs.declared.Edition.{Edition}
 use Rattle.rules.specs.declared.Record.{Record}
 use Rattle.rules.specs.declared.Station.{Station}
 use Rattle.rules.specs.Constants.{recordCount}
-use Rattle.words.specs.Words.{recordsOf, stationOf, withRecords}
+use Rattle.rules.specs.Invariant.{GoodRecord}
+use Rattle.ends.specs.Lists.{All}
+use Rattle.words.specs.Words.{editionIn, recordsOf, stationOf, withRecords}
+use Rattle.ends.proofs.ListLaws.{all-at}
 use Rattle.ends.proofs.WordLaws.{take-more, take-whole}
 use Rattle.words.proofs.RecordWords.{length-records}
 
@@ -48,6 +52,13 @@ unfolding stationOf
 stored-start rs w s x = record { turns = omega arith; words = refl; sums = refl; spread = refl; station = refl; done = refl }
 
 module _ (rs : List Record) (w₀ s₀ x₀ w s x : List ℕ) (i : ℕ) (q : StoredSo rs w₀ s₀ x₀ w s x i) where
+  -- the records are still good in the words' edition
+  pub stored-good : (z : Record) → All (GoodRecord (editionIn w₀)) rs → i < length rs → GoodRecord (editionIn w) (getD rs i z)
+  unfolding stationOf
+  stored-good z g h =
+      let same : editionIn w ≡ editionIn w₀ = ap (λ (u : Station). u .config .edition) (q .station) in
+      subst (λ (e : Edition). GoodRecord e (getD rs i z)) (sym same) (all-at (GoodRecord (editionIn w₀)) rs i z g h)
+
   pub stored-next : (v t y : List ℕ) (z : Record) → i < recordCount → i < length rs → length v ≡ length w → length t ≡ length s → length y ≡ length x
       → stationOf v t y ≡ withRecords (stationOf w s x) (set (recordsOf w s x) i (getD rs i z)) → StoredSo rs w₀ s₀ x₀ v t y (i + 1)
   unfolding stationOf

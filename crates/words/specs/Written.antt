@@ -2,6 +2,8 @@
 use Prim.Native.Nat.{ℕ}
 use mathlib.Core.Bool.{Bool, true, false}
 use mathlib.Core.List.{List, [], _∷_, _++_}
+use Rattle.messages.specs.declared.Edition.{Edition}
+use Rattle.messages.specs.declared.Edition.the-variants.{Iso, Sae}
 use Rattle.rules.specs.declared.Configuration.{Configuration}
 use Rattle.rules.specs.declared.Phase.{Phase}
 use Rattle.rules.specs.declared.Phase.the-variants.{Asked, Sounding, Reported, Awaiting, Ready, Counting, Success}
@@ -41,7 +43,7 @@ phaseCount (Success t) = 0
 
 -- a record's words
 unfoldable pub wordsOf : Record → List ℕ
-wordsOf r = flagOf (r .held) ∷ r .car .0 ∷ r .run .0 ∷ phaseNumber (r .phase) ∷ timeOf (r .phase) ∷ phaseCount (r .phase) ∷ r .heard ∷ r .profiles ∷ []
+wordsOf r = flagOf (r .held) ∷ r .car .0 ∷ r .run .0 ∷ phaseNumber (r .phase) ∷ timeOf (r .phase) ∷ phaseCount (r .phase) ∷ r .heard ∷ r .profiles ∷ flagOf (r .later) ∷ r .groups ∷ []
 
 -- a spread's octets: the least values, then the greatest
 abbrev pub spreadOctets : Spread → List ℕ
@@ -84,8 +86,13 @@ pilotNumber D = 3
 pilotNumber E = 4
 pilotNumber F = 5
 
+-- the number of an edition
+abbrev pub editionNumber : Edition → ℕ
+editionNumber Iso = 0
+editionNumber Sae = 1
+
 -- the words of the head
 unfoldable pub headOf : Configuration → State → Pilot → ℕ → List ℕ
 headOf o st p t =
     flagOf (o .good) ∷ o .address .0 ∷ o .modem .0 ∷ o .nid .0 ∷ o .nmk .0 ∷ o .nmk .1
-    ∷ stateNumber st ∷ stateTime st ∷ stateCar st ∷ stateRun st ∷ pilotNumber p ∷ t ∷ flagOf (o .exempt) ∷ []
+    ∷ stateNumber st ∷ stateTime st ∷ stateCar st ∷ stateRun st ∷ pilotNumber p ∷ t ∷ flagOf (o .exempt) ∷ editionNumber (o .edition) ∷ []

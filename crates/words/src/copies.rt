@@ -1,14 +1,16 @@
 // Runs of sums and of a spread's octets, in and out.
 use messages::GROUPS;
 use messages::GroupValues;
+use rules::GroupSums;
 use rules::Spread;
 ghost use mathlib.Core.Path.{_≡_};
-ghost use Prim.Native.Nat.{_+_, _≤_};
+ghost use mathlib.Core.List.{map};
+ghost use Prim.Native.Nat.{_+_, _≤_, min};
 ghost use lib.ListN.{length, replicate};
 ghost use lib.Seq.{sets};
 ghost use Rattle.octets.specs.Octets.{part};
 ghost use Rattle.messages.specs.Table.{groupCount};
-ghost use Rattle.words.specs.Words.{spreadWidth, sumsOf, spreadOf};
+ghost use Rattle.words.specs.Words.{spreadWidth, mostSum, onlyFirst, sumsOf, spreadOf};
 ghost use Rattle.words.specs.Written.{spreadOctets};
 use crate::fields;
 
@@ -35,10 +37,10 @@ pub(crate) fn clear_sums(sums: &mut [u16])
     }
 }
 
-// A record's sums, each at most 255 for every profile.
-pub(crate) fn sums_at(sums: &[u16], at: usize, profiles: u8) -> [u16; GROUPS]
+// The sums of all groups from `at`, each at most 255 for every profile.
+fn limited_at(sums: &[u16], at: usize, profiles: u8) -> GroupSums
     requires { ⌜ at + groupCount ≤ length (now sums) ⌝ }
-    ensures { λ r. ⌜ r ≡ sumsOf profiles (part (now (sums .entry)) at groupCount) ⌝ }
+    ensures { λ r. ⌜ r ≡ map (min (mostSum profiles)) (part (now (sums .entry)) at groupCount) ⌝ }
 {
     let most = fields::most_sum(profiles);
     let mut r: [u16; GROUPS] = [0; GROUPS];
@@ -48,6 +50,27 @@ pub(crate) fn sums_at(sums: &[u16], at: usize, profiles: u8) -> [u16; GROUPS]
         i += 1;
     }
     r
+}
+
+// The sums of the first groups, and 0 for each of the others: nothing is done where there are no others.
+fn only_first(own: GroupSums, groups: usize) -> GroupSums
+    ensures { λ r. ⌜ r ≡ onlyFirst groups own ⌝ }
+{
+    let mut r = own;
+    let mut i = groups;
+    while i < GROUPS {
+        r[i] = 0;
+        i += 1;
+    }
+    r
+}
+
+// A record's sums: those of the first groups, each at most 255 for every profile.
+pub(crate) fn sums_at(sums: &[u16], at: usize, profiles: u8, groups: usize) -> GroupSums
+    requires { ⌜ at + groupCount ≤ length (now sums) ⌝ }
+    ensures { λ r. ⌜ r ≡ sumsOf profiles groups (part (now (sums .entry)) at groupCount) ⌝ }
+{
+    only_first(limited_at(sums, at, profiles), groups)
 }
 
 // The values of all groups from `at`: copied out of a part of a length that the compiler knows, so that no octet is tested.

@@ -1,7 +1,8 @@
 // Single fields: the numbers that a word may mean, and the numbers that are written.
 use ends::RETRIES;
-use ends::SOUNDS;
 use messages::CarAddress;
+use messages::Edition;
+use messages::GROUPS;
 use messages::RunId;
 use rules::ASKED_TIME;
 use rules::AWAITING_TIME;
@@ -11,23 +12,55 @@ use rules::Phase;
 use rules::Pilot;
 use rules::READY_TIME;
 use rules::REPORTED_TIME;
-use rules::SOUNDING_TIME;
 use rules::SUCCESS_TIME;
 use rules::State;
+use rules::tries;
 ghost use mathlib.Core.Path.{_≡_};
 ghost use Prim.Native.Nat.{_*_, _^_, _%_, _<_, min};
-ghost use Rattle.ends.specs.Constants.{soundCount};
-ghost use Rattle.words.specs.Words.{countingOf, phaseOf, reportedOf, profilesOf, mostSum, stateBy};
-ghost use Rattle.words.specs.Written.{countingNumber, phaseNumber, phaseCount, stateTime, stateCar, stateRun, pilotNumber};
+ghost use Rattle.rules.specs.Constants.{soundsPerTry};
+ghost use Rattle.words.specs.Words.{someOf, laterOf, countingOf, phaseOf, profilesOf, groupsOf, mostSum, stateBy};
+ghost use Rattle.words.specs.Written.{countingNumber, phaseNumber, phaseCount, stateTime, stateCar, stateRun, pilotNumber, editionNumber};
 
 // How many sets of sound counts there are: two to the number of sounds.
 const HEARD_SETS: u64 = 1024;
 
-// A set of sound counts.
-pub(crate) fn heard(x: u64) -> u16
-    ensures { λ r. ⌜ r ≡ x % 2 ^ soundCount ⌝ }
+// The same in a first try of the SAE edition.
+const FIRST_SETS: u64 = 256;
+
+// And in a later one.
+const LATER_SETS: u64 = 65536;
+
+// A count of one at least, and of so many at most.
+fn some(most: u8, word: u64) -> u8
+    ensures { λ r. ⌜ r ≡ someOf most word ⌝ }
 {
-    (x % HEARD_SETS) as u16
+    ends::fields::at_most_count(most, ends::fields::positive(word))
+}
+
+// Whether the try is a later one: with ISO never.
+pub(crate) fn later(edition: Edition, word: u64) -> bool
+    ensures { λ b. ⌜ b ≡ laterOf edition word ⌝ }
+{
+    match edition {
+        Edition::Iso => false,
+        Edition::Sae => word == 1,
+    }
+}
+
+// A set of sound counts.
+pub(crate) fn heard(edition: Edition, later: bool, x: u64) -> u16
+    ensures { λ r. ⌜ r ≡ x % 2 ^ soundsPerTry edition later ⌝ }
+{
+    match edition {
+        Edition::Iso => (x % HEARD_SETS) as u16,
+        Edition::Sae => {
+            if later {
+                (x % LATER_SETS) as u16
+            } else {
+                (x % FIRST_SETS) as u16
+            }
+        }
+    }
 }
 
 // The same for a sum.
@@ -56,11 +89,11 @@ fn counting(left: u64, toggles: u64, begun: bool) -> Phase
 }
 
 // A phase by its number; any other number is Asked.
-pub(crate) fn phase(number: u64, left: u64, count: u64) -> Phase
-    ensures { λ r. ⌜ r ≡ phaseOf number left count ⌝ }
+pub(crate) fn phase(edition: Edition, later: bool, number: u64, left: u64, count: u64) -> Phase
+    ensures { λ r. ⌜ r ≡ phaseOf edition later number left count ⌝ }
 {
     match number {
-        1 => Phase::Sounding(ends::fields::time(SOUNDING_TIME, left)),
+        1 => Phase::Sounding(ends::fields::time(tries::sounding_time(edition, later), left)),
         2 => Phase::Reported {
             left: ends::fields::time(REPORTED_TIME, left),
             retries: ends::fields::at_most_count(RETRIES, count),
@@ -74,21 +107,31 @@ pub(crate) fn phase(number: u64, left: u64, count: u64) -> Phase
     }
 }
 
-// The profiles of which a report was made.
-fn reported(word: u64) -> u8
-    ensures { λ r. ⌜ r ≡ reportedOf word ⌝ }
-{
-    ends::fields::at_most_count(SOUNDS, ends::fields::positive(word))
-}
-
 // The profiles counted.
-pub(crate) fn profiles(phase: Phase, word: u64) -> u8
-    ensures { λ r. ⌜ r ≡ profilesOf phase word ⌝ }
+pub(crate) fn profiles(edition: Edition, later: bool, phase: Phase, word: u64) -> u8
+    ensures { λ r. ⌜ r ≡ profilesOf edition later phase word ⌝ }
 {
+    let most = tries::sounds(edition, later);
     match phase {
         Phase::Asked(_) => 0,
-        Phase::Sounding(_) => ends::fields::at_most_count(SOUNDS - 1, word),
-        _ => reported(word),
+        Phase::Sounding(_) => ends::fields::at_most_count(most - 1, word),
+        _ => some(most, word),
+    }
+}
+
+// The group count: none before a profile is counted, and with ISO always.
+pub(crate) fn groups(edition: Edition, profiles: u8, word: u64) -> usize
+    ensures { λ r. ⌜ r ≡ groupsOf edition profiles word ⌝ }
+{
+    match edition {
+        Edition::Iso => 0,
+        Edition::Sae => {
+            if profiles == 0 {
+                0
+            } else {
+                some(GROUPS as u8, word) as usize
+            }
+        }
     }
 }
 
@@ -215,5 +258,15 @@ pub(crate) fn pilot_number(pilot: Pilot) -> u64
         Pilot::D => 3,
         Pilot::E => 4,
         Pilot::F => 5,
+    }
+}
+
+// The number of an edition.
+pub(crate) fn edition_number(edition: Edition) -> u64
+    ensures { λ r. ⌜ r ≡ editionNumber edition ⌝ }
+{
+    match edition {
+        Edition::Iso => 0,
+        Edition::Sae => 1,
     }
 }

@@ -1,6 +1,7 @@
-// The head: the configuration, the state, the pilot state and the clock; whether validation is not required stands last.
+// The head: the configuration, the state, the pilot state and the clock; whether validation is not required and the edition stand last.
 use crate::HEAD;
 use crate::fields;
+use messages::Edition;
 use messages::ModemAddress;
 use messages::Nid;
 use messages::Nmk;
@@ -12,7 +13,7 @@ ghost use mathlib.Core.Path.{_≡_};
 ghost use Prim.Native.Nat.{_%_, _^_, _<_, _≤_};
 ghost use lib.ListN.{length, getD};
 ghost use lib.Seq.{sets};
-ghost use Rattle.words.specs.Words.{headCount, configOf, stateOf};
+ghost use Rattle.words.specs.Words.{headCount, configOf, editionIn, stateOf};
 ghost use Rattle.rules.specs.Numbers.{pilotOf};
 ghost use Rattle.words.specs.Written.{stateTime, headOf};
 
@@ -32,7 +33,16 @@ pub(crate) fn config(words: &[u64]) -> Configuration
         nid: Nid(nid),
         nmk: Nmk(words[4], words[5]),
         exempt: words[12] == 1,
+        edition: rules::edition_of(words[13]),
     }
+}
+
+// Its edition.
+pub(crate) fn edition(words: &[u64]) -> Edition
+    requires { ⌜ headCount ≤ length (now words) ⌝ }
+    ensures { λ r. ⌜ r ≡ editionIn (now (words .entry)) ⌝ }
+{
+    rules::edition_of(words[13])
 }
 
 // The state.
@@ -75,6 +85,8 @@ fn head_words(config: Configuration, state: State, pilot: Pilot, clock: u32) -> 
     let at = fields::pilot_number(pilot);
     let reading = ends::fields::from32(clock);
     let exempt = ends::fields::flag(config.exempt);
+    let kind = config.edition;
+    let edition = fields::edition_number(kind);
     [
         good,
         address.0,
@@ -89,6 +101,7 @@ fn head_words(config: Configuration, state: State, pilot: Pilot, clock: u32) -> 
         at,
         reading,
         exempt,
+        edition,
     ]
 }
 

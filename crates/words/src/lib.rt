@@ -7,6 +7,7 @@ mod search;
 mod whole;
 
 use messages::CarAddress;
+use messages::Edition;
 use messages::GROUPS;
 use records::changes;
 use records::find::Found;
@@ -23,15 +24,15 @@ ghost use lib.ListN.{getD, set};
 ghost use Rattle.rules.specs.Invariant.{GoodRecord, Invariant};
 ghost use Rattle.rules.specs.Rules.{freeRecord};
 ghost use Rattle.records.specs.Places.{ownFrom, placeOf};
-ghost use Rattle.words.specs.Words.{configOf, stateOf, recordsOf, heldCount, stationOf, withRecords};
+ghost use Rattle.words.specs.Words.{configOf, editionIn, stateOf, recordsOf, heldCount, stationOf, withRecords};
 ghost use Rattle.words.specs.Written.{stateNumber};
 ghost use Rattle.words.specs.Wiped.{Wiped};
 
 // How many words the head has.
-pub const HEAD: usize = 13;
+pub const HEAD: usize = 14;
 
 // How many words a record has.
-pub const WIDTH: usize = 8;
+pub const WIDTH: usize = 10;
 
 // How many words a station has.
 pub const WORDS: usize = HEAD + WIDTH * RECORDS;
@@ -59,6 +60,13 @@ pub fn config_of(words: &StationWords) -> Configuration
     ensures { λ r. ⌜ r ≡ configOf (now (words .entry)) ⌝ }
 {
     head::config(words)
+}
+
+// The edition, by one word.
+pub fn edition_of(words: &StationWords) -> Edition
+    ensures { λ r. ⌜ r ≡ editionIn (now (words .entry)) ⌝ }
+{
+    head::edition(words)
 }
 
 // The state.
@@ -96,12 +104,12 @@ pub fn record_at(
     spread: &StationSpread,
     i: usize,
 ) -> Record
-    ensures { λ r. ⌜ (r ≡ getD (recordsOf (now (words .entry)) (now (sums .entry)) (now (spread .entry))) i freeRecord) × GoodRecord r ⌝ }
+    ensures { λ r. ⌜ (r ≡ getD (recordsOf (now (words .entry)) (now (sums .entry)) (now (spread .entry))) i freeRecord) × GoodRecord (editionIn (now (words .entry))) r ⌝ }
 {
     if i < RECORDS {
         one_record::read(words, sums, spread, i)
     } else {
-        let fresh = changes::fresh(CarAddress(0), messages::RunId(0));
+        let fresh = changes::fresh(false, CarAddress(0), messages::RunId(0));
         timers::freed(fresh)
     }
 }
@@ -114,7 +122,7 @@ pub fn put_record(
     i: usize,
     r: Record,
 )
-    requires { ⌜ GoodRecord r ⌝ }
+    requires { ⌜ GoodRecord (editionIn (now words)) r ⌝ }
     ensures { λ _. ⌜ stationOf (now (words .exit)) (now (sums .exit)) (now (spread .exit)) ≡ withRecords (stationOf (now (words .entry)) (now (sums .entry)) (now (spread .entry))) (set (recordsOf (now (words .entry)) (now (sums .entry)) (now (spread .entry))) i r) ⌝ }
 {
     one_record::store(words, sums, spread, i, r);

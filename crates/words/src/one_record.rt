@@ -4,12 +4,14 @@ use crate::SPREAD_WIDTH;
 use crate::WIDTH;
 use crate::copies;
 use crate::fields;
+use crate::head;
 use messages::CarAddress;
 use messages::GROUPS;
 use messages::RunId;
 use records::timers;
 use rules::RECORDS;
 use rules::Record;
+use rules::tries;
 ghost use mathlib.Core.Path.{_≡_};
 ghost use mathlib.Core.List.{List};
 ghost use Prim.Native.Nat.{ℕ, _<_};
@@ -18,7 +20,7 @@ ghost use Rattle.rules.specs.Constants.{recordCount};
 ghost use Rattle.rules.specs.Records.{isHeld};
 ghost use Rattle.rules.specs.Invariant.{GoodRecord};
 ghost use Rattle.rules.specs.Rules.{freeRecord};
-ghost use Rattle.words.specs.Words.{wordCount, sumCount, spreadCount, recordsOf, stationOf, withRecords};
+ghost use Rattle.words.specs.Words.{wordCount, sumCount, spreadCount, editionIn, recordsOf, stationOf, withRecords};
 ghost use Rattle.words.specs.Written.{wordsOf};
 
 // Whether the record at a place is held.
@@ -43,23 +45,34 @@ pub(crate) fn read(words: &[u64], sums: &[u16], spread: &[u8], i: usize) -> Reco
     requires { ⌜ (i < recordCount) × ((length (now words) ≡ wordCount) × ((length (now sums) ≡ sumCount) × (length (now spread) ≡ spreadCount))) ⌝ }
     ensures { λ r. ⌜ r ≡ getD (recordsOf (now (words .entry)) (now (sums .entry)) (now (spread .entry))) i freeRecord ⌝ }
 {
+    let edition = head::edition(words);
     let at = HEAD + WIDTH * i;
     let held = is_held(words, i);
     let car = car_at(words, i);
-    let phase = fields::phase(words[at + 3], words[at + 4], words[at + 5]);
-    let heard = fields::heard(words[at + 6]);
-    let profiles = fields::profiles(phase, words[at + 7]);
-    let own = copies::sums_at(sums, GROUPS * i, profiles);
+    let run = words[at + 2];
+    let later = fields::later(edition, words[at + 8]);
+    let phase = fields::phase(edition, later, words[at + 3], words[at + 4], words[at + 5]);
+    let heard = fields::heard(edition, later, words[at + 6]);
+    let profiles = fields::profiles(edition, later, phase, words[at + 7]);
+    let groups = fields::groups(edition, profiles, words[at + 9]);
+    let own = copies::sums_at(
+        sums,
+        GROUPS * i,
+        profiles,
+        tries::groups_in(edition, groups),
+    );
     let values = copies::spread_at(spread, SPREAD_WIDTH * i);
     Record {
         car: car,
-        run: RunId(words[at + 2]),
+        run: RunId(run),
         held: held,
         phase: phase,
         heard: heard,
         profiles: profiles,
         sums: own,
         spread: values,
+        later: later,
+        groups: groups,
     }
 }
 
@@ -76,12 +89,25 @@ fn record_words(r: Record) -> [u64; WIDTH]
     let count = ends::fields::from8(fields::phase_count(phase));
     let heard = ends::fields::from16(r.heard);
     let profiles = ends::fields::from8(r.profiles);
-    [held, car.0, run.0, number, left, count, heard, profiles]
+    let later = ends::fields::flag(r.later);
+    let groups = r.groups as u64;
+    [
+        held,
+        car.0,
+        run.0,
+        number,
+        left,
+        count,
+        heard,
+        profiles,
+        later,
+        groups,
+    ]
 }
 
 // Stores a record at its place; past the last place, nothing.
 pub(crate) fn store(words: &mut [u64], sums: &mut [u16], spread: &mut [u8], i: usize, r: Record)
-    requires { ⌜ GoodRecord r × ((length (now words) ≡ wordCount) × ((length (now sums) ≡ sumCount) × (length (now spread) ≡ spreadCount))) ⌝ }
+    requires { ⌜ GoodRecord (editionIn (now words)) r × ((length (now words) ≡ wordCount) × ((length (now sums) ≡ sumCount) × (length (now spread) ≡ spreadCount))) ⌝ }
     ensures { λ _. ⌜ stationOf (now (words .exit)) (now (sums .exit)) (now (spread .exit)) ≡ withRecords (stationOf (now (words .entry)) (now (sums .entry)) (now (spread .entry))) (set (recordsOf (now (words .entry)) (now (sums .entry)) (now (spread .entry))) i r) ⌝ }
 {
     if RECORDS <= i {

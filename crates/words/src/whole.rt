@@ -9,7 +9,7 @@ ghost use mathlib.Core.Path.{_≡_};
 ghost use lib.ListN.{length};
 ghost use Rattle.rules.specs.Invariant.{GoodRecord, Invariant};
 ghost use Rattle.ends.specs.Lists.{All};
-ghost use Rattle.words.specs.Words.{wordCount, sumCount, spreadCount, recordsOf, stationOf, withRecords};
+ghost use Rattle.words.specs.Words.{wordCount, sumCount, spreadCount, editionIn, recordsOf, stationOf, withRecords};
 ghost use Rattle.words.specs.Wiped.{Wiped};
 
 // All records.
@@ -48,7 +48,7 @@ pub(crate) fn unpack(words: &[u64], sums: &[u16], spread: &[u8]) -> Station
 
 // Stores all records.
 fn store_all(records: RecordArray, words: &mut [u64], sums: &mut [u16], spread: &mut [u8])
-    requires { ⌜ All GoodRecord records × ((length (now words) ≡ wordCount) × ((length (now sums) ≡ sumCount) × (length (now spread) ≡ spreadCount))) ⌝ }
+    requires { ⌜ All (GoodRecord (editionIn (now words))) records × ((length (now words) ≡ wordCount) × ((length (now sums) ≡ sumCount) × (length (now spread) ≡ spreadCount))) ⌝ }
     ensures { λ _. ⌜ stationOf (now (words .exit)) (now (sums .exit)) (now (spread .exit)) ≡ withRecords (stationOf (now (words .entry)) (now (sums .entry)) (now (spread .entry))) records ⌝ }
 {
     let mut i: usize = 0;

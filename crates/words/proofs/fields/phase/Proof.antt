@@ -1,11 +1,15 @@
 -- `words::fields::phase` meets its contract, by the number.
 use mathlib.Core.Path.{ap, ap₂, _∙_}
 use Rattle.rules.specs.declared.Phase.the-variants.{Asked, Sounding, Reported, Awaiting, Ready, Success}
+use Rattle.ends.specs.Words.{timeWithin}
 use Rattle.words.proofs.PhaseLaws.{no-phase}
 use Rattle.words.specs.Words.{phaseOf}
 use borrow.Author.Needs.{needs}
 use Rattle.words.proofs.fields.phase.Statement.{statement}
 use Rattle.words.proofs.fields.phase.Tie as tie
+
+sounding-time-requires : tie.Need-sounding-time-requires
+sounding-time-requires c κs = search needs
 
 time-requires : tie.Need-time-requires
 time-requires c κs = search needs
@@ -36,7 +40,7 @@ time-requires-6 c κs = search needs
 
 returns : tie.Need-returns
 unfolding phaseOf
-returns c = rw (c .before .match .keys1) (ap Sounding (c .time .ensures))
+returns c = rw (c .before .before .match .keys1) (ap Sounding (c .time .ensures ∙ ap (λ t. timeWithin t (c .before .before .before .args .left)) (c .before .sounding-time .ensures)))
 
 returns-2 : tie.Need-returns-2
 unfolding phaseOf
@@ -63,12 +67,13 @@ unfolding phaseOf
 returns-7 c = rw (c .before .match .keys7) (ap Success (c .time5 .ensures))
 
 returns-8 : tie.Need-returns-8
-returns-8 c = let r = c .before .match .rest in ap Asked (c .time6 .ensures) ∙ no-phase _ _ _ (r .0 .0 .0 .0 .0 .0 .1) (r .0 .0 .0 .0 .0 .1) (r .0 .0 .0 .0 .1) (r .0 .0 .0 .1) (r .0 .0 .1) (r .0 .1) (r .1)
+returns-8 c = let r = c .before .match .rest in ap Asked (c .time6 .ensures) ∙ no-phase _ _ _ _ _ (r .0 .0 .0 .0 .0 .0 .1) (r .0 .0 .0 .0 .0 .1) (r .0 .0 .0 .0 .1) (r .0 .0 .0 .1) (r .0 .0 .1) (r .0 .1) (r .1)
 
 pub phase-spec : {M : Type 1} → statement M
 phase-spec =
     tie.close
     (tie.spec
+    sounding-time-requires
     time-requires
     time-requires-2
     at-most-count-requires

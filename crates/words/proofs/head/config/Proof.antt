@@ -28,9 +28,15 @@ shared-slice-read-t19 c = search needs
 shared-slice-read-t22 : tie.Need-shared-slice-read-t22
 shared-slice-read-t22 c = search needs
 
+shared-slice-read-edition-of : tie.Need-shared-slice-read-edition-of
+shared-slice-read-edition-of c = search needs
+
+edition-of-requires : tie.Need-edition-of-requires
+edition-of-requires c κs = search needs
+
 returns : tie.Need-returns
 unfolding configOf
-returns c = simp (c .before .before .before .before .is-good .ensures)
+returns c = simp (c .before .before .before .before .before .before .is-good .ensures, c .edition-of .ensures)
 
 pub config-spec : {M : Type 1} → statement M
 config-spec =
@@ -44,4 +50,6 @@ config-spec =
     shared-slice-read-t17
     shared-slice-read-t19
     shared-slice-read-t22
+    shared-slice-read-edition-of
+    edition-of-requires
     returns)

@@ -35,11 +35,14 @@ from32-requires-3 c κs = search needs
 flag-requires-2 : tie.Need-flag-requires-2
 flag-requires-2 c κs = search needs
 
+edition-number-requires : tie.Need-edition-number-requires
+edition-number-requires c κs = search needs
+
 returns : tie.Need-returns
 unfolding headOf
 returns c = (
-  simp (c .before .before .before .before .before .before .before .before .before .flag .ensures, c .before .before .before .before .before .before .before .from32 .ensures .0, c .before .before .before .before .before .before .before .before .state-number .ensures, c .before .before .before .before .before .from322 .ensures .0, c .before .before .before .before .before .before .state-time .ensures, c .before .before .before .before .state-car .ensures, c .before .before .before .state-run .ensures, c .before .before .pilot-number .ensures, c .before .from323 .ensures .0, c .flag2 .ensures),
-  (omega (arith, c .before .before .before .before .before .from322 .ensures .1, c .before .before .before .before .before .before .state-time .ensures), c .before .from323 .ensures .1),
+  simp (c .before .before .before .before .before .before .before .before .before .before .flag .ensures, c .before .before .before .before .before .before .before .before .from32 .ensures .0, c .before .before .before .before .before .before .before .before .before .state-number .ensures, c .before .before .before .before .before .before .from322 .ensures .0, c .before .before .before .before .before .before .before .state-time .ensures, c .before .before .before .before .before .state-car .ensures, c .before .before .before .before .state-run .ensures, c .before .before .before .pilot-number .ensures, c .before .before .from323 .ensures .0, c .before .flag2 .ensures, c .edition-number .ensures),
+  (omega (arith, c .before .before .before .before .before .before .from322 .ensures .1, c .before .before .before .before .before .before .before .state-time .ensures), c .before .before .from323 .ensures .1),
 )
 
 pub head-words-spec : {M : Type 1} → statement M
@@ -56,4 +59,5 @@ head-words-spec =
     pilot-number-requires
     from32-requires-3
     flag-requires-2
+    edition-number-requires
     returns)

@@ -28,9 +28,12 @@ from16-requires c κs = search needs
 from8-requires-2 : tie.Need-from8-requires-2
 from8-requires-2 c κs = search needs
 
+flag-requires-2 : tie.Need-flag-requires-2
+flag-requires-2 c κs = search needs
+
 returns : tie.Need-returns
 unfolding wordsOf
-returns c = simp (c .before .before .before .before .before .before .before .flag .ensures, c .before .before .before .before .before .before .phase-number .ensures, c .before .before .before .before .from32 .ensures .0, c .before .before .before .before .before .time-of .ensures, c .before .before .from8 .ensures, c .before .before .before .phase-count .ensures, c .before .from16 .ensures, c .from82 .ensures)
+returns c = simp (c .before .before .before .before .before .before .before .before .flag .ensures, c .before .before .before .before .before .before .before .phase-number .ensures, c .before .before .before .before .before .from32 .ensures .0, c .before .before .before .before .before .before .time-of .ensures, c .before .before .before .from8 .ensures, c .before .before .before .before .phase-count .ensures, c .before .before .from16 .ensures, c .before .from82 .ensures, c .flag2 .ensures)
 
 pub record-words-spec : {M : Type 1} → statement M
 record-words-spec =
@@ -44,4 +47,5 @@ record-words-spec =
     from8-requires
     from16-requires
     from8-requires-2
+    flag-requires-2
     returns)

@@ -1,9 +1,7 @@
 -- `words::whole::store_all` meets its contract: the records before i are stored.
 use Prim.Native.Nat.{_-_}
-use Rattle.ends.proofs.ListLaws.{all-at}
 use Rattle.rules.specs.Constants.{recordCount}
-use Rattle.rules.specs.Invariant.{GoodRecord}
-use Rattle.words.proofs.WholeLaws.{StoredSo, stored-start, stored-next, stored-end}
+use Rattle.words.proofs.WholeLaws.{StoredSo, stored-start, stored-good, stored-next, stored-end}
 use borrow.Author.Needs.{needs}
 use native.Mathlib.Omega.{arith}
 use Rattle.words.proofs.whole.store_all.Statement.{statement}
@@ -28,7 +26,7 @@ store-requires : tie.Need-store-requires Inv-loop μ-loop
 store-requires c κs =
     let s = c .before .before .before .before .before .before .before .before .before in
     let l = c .before .before .before .before .before .loop in
-    (all-at GoodRecord (s .args .t1) (l .i) _ (s .pre .0) (search needs), (omega (arith, l .inv .words, s .pre .1 .0), (omega (arith, l .inv .sums, s .pre .1 .1 .0), omega (arith, l .inv .spread, s .pre .1 .1 .1))))
+    (stored-good (s .args .t1) (s .args .words .now) (s .args .sums .now) (s .args .spread .now) (l .words) (l .sums) (l .spread) (l .i) (l .inv) _ (s .pre .0) (search needs), (omega (arith, l .inv .words, s .pre .1 .0), (omega (arith, l .inv .sums, s .pre .1 .1 .0), omega (arith, l .inv .spread, s .pre .1 .1 .1))))
 
 add-i : tie.Need-add-i Inv-loop μ-loop
 add-i c = search needs
