@@ -1,6 +1,7 @@
 -- A frame on lent words and sums: what its parts come to, and the call's promise.
 use Prim.Native.Nat.{ℕ}
 use mathlib.Core.Path.{_≡_, refl, sym, ap, ap₂, _∙_, subst}
+use mathlib.Core.Bool.{Bool}
 use mathlib.Core.List.{List, [], _∷_}
 use denote.Enum.Declared.{tagOf}
 use lib.Dec.{ltb}
@@ -10,8 +11,8 @@ use Rattle.messages.specs.declared.CarAddress.{CarAddress}
 use Rattle.messages.specs.declared.Refusal.{Refusal}
 use Rattle.messages.specs.declared.RunId.{RunId}
 use Rattle.messages.specs.Answers.{numberOf}
-use Rattle.octets.specs.Octets.{splice}
-use Rattle.messages.specs.Reading.{Checked, no, yes, groupsOf, readRules}
+use Rattle.octets.specs.Octets.{Octets, splice}
+use Rattle.messages.specs.Reading.{Checked, no, yes, Beside, besideOf, readRules}
 use Rattle.rules.specs.declared.Configuration.{Configuration}
 use Rattle.ends.specs.declared.Indication.the-variants.{Nothing}
 use Rattle.rules.specs.declared.Record.{Record}
@@ -29,6 +30,7 @@ use Rattle.messages.specs.Table.{Message}
 use Rattle.messages.specs.Writing.{frame}
 use Rattle.ends.specs.declared.Answer.{Answer}
 use Rattle.rules.specs.Received.{RecordMessage, parmReq, Request, forRecord}
+use Rattle.rules.specs.FromOctets.{OctetRequest}
 use Rattle.rules.specs.Records.{fresh}
 use Rattle.rules.specs.Replies.{parmCnf}
 use Rattle.rules.specs.Rules.{rule, sharedStep, step, outcome}
@@ -44,14 +46,14 @@ use Rattle.receiving.specs.declared.judge.Judged.{Judged}
 use Rattle.receiving.specs.declared.judge.Judged.the-variants as judged
 use Rattle.receiving.specs.declared.judge.OwnMessage.{OwnMessage}
 use Rattle.receiving.specs.declared.judge.Request as code
-use Rattle.receiving.specs.AtRecord.{admissionRule, admissionOf, ownRule}
+use Rattle.receiving.specs.AtRecord.{laterAt, admissionRule, admissionOf, ownRule}
 use Rattle.station.specs.Frames.{Ready, settled}
-use Rattle.receiving.specs.Judge.{Asking, ownMessageOf, judgedOf, judgeRule}
+use Rattle.receiving.specs.Judge.{Asking, ownMessageOf, requestOf, judgedOf, judgeRule}
 use Rattle.station.proofs.ComesLaws.{state-other}
 use Rattle.station.proofs.OwnLaws.{change-own, own-none, own-settled}
 use Rattle.station.proofs.ParmLaws.{parm-answered}
-use Rattle.receiving.proofs.JudgeLaws.{taken, frame-judged, judges}
-use Rattle.words.specs.Words.{configOf, stateOf, recordsOf, stationOf, withRecords}
+use Rattle.receiving.proofs.JudgeLaws.{taken, frame-judged, judges, judged-octets}
+use Rattle.words.specs.Words.{configOf, editionIn, stateOf, recordsOf, stationOf, withRecords}
 use Rattle.words.proofs.Meant.{meant}
 use Rattle.lahzavar.specs.declared.Answered.{Answered}
 use Rattle.lahzavar.specs.Answers.{saidOf, answered}
@@ -111,36 +113,39 @@ module _ (w s z : List ℕ) (c : CarAddress) where
 
     module _ (a : ℕ) (t : st ≡ Matching a) (p : Found) (ep : (u h : List ℕ) → p ≡ placeOf c (recordsOf w u h)) where
       -- PARM.REQ, by what is answered of the place
-      pub takes-parm : (run : RunId) (x k : Admission) → admissionOf x ≡ admissionRule run p (ltb 0 a) → x ≡ k
-          → ruleOf (forRecord (parmReq run)) ≡ andThen (admissionOf k) (λ (i : ℕ). settled (stationOf w s z) i c (keeps (fresh c run) (parmCnf run ∷ [])))
+      pub takes-parm : (run : RunId) (later : Bool) (x k : Admission) → later ≡ laterAt (editionIn w) p → admissionOf x ≡ admissionRule run p (ltb 0 a) → x ≡ k
+          → ruleOf (forRecord (parmReq run)) ≡ andThen (admissionOf k) (λ (i : ℕ). settled (stationOf w s z) i c (keeps (fresh later c run) (parmCnf later run ∷ [])))
       unfolding stationOf
-      takes-parm run x k ex ek =
+      takes-parm run later x k el ex ek =
           parm-answered (configOf w) (stateOf w) (recordsOf w s z) c run a (sym es ∙ t) p (ep s z) x ex
-          ∙ ap (λ (y : Admission). andThen (admissionOf y) (λ (i : ℕ). settled (stationOf w s z) i c (keeps (fresh c run) (parmCnf run ∷ [])))) ek
+          ∙ ap₂ (λ (y : Admission) (b : Bool). andThen (admissionOf y) (λ (i : ℕ). settled (stationOf w s z) i c (keeps (fresh b c run) (parmCnf b run ∷ [])))) ek (sym el)
 
     module _ (a : ℕ) (t : st ≡ Matching a) (p : Found) (ep : (u h : List ℕ) → p ≡ ownFrom c 0 (recordsOf w u h)) where
-      module _ (m : OwnMessage) (g : List ℕ) where
+      module _ (m : OwnMessage) (b : Beside) where
         -- 11 where the car holds no record
-        pub takes-missing : OneOf (1 ∷ 2 ∷ []) (tagOf places.the-type p) → ruleOf (forRecord (ownMessageOf m g)) ≡ no 11
+        pub takes-missing : OneOf (1 ∷ 2 ∷ []) (tagOf places.the-type p) → ruleOf (forRecord (ownMessageOf m b)) ≡ no 11
         unfolding stationOf
-        takes-missing o = own-none (stationOf w s z) c (ownMessageOf m g) (ownRule m g) (change-own c m g _) a (sym es ∙ t) (own-missing c (recordsOf w s z) p (ep s z) o)
+        takes-missing o = own-none (stationOf w s z) c (ownMessageOf m b) (ownRule (editionIn w) m b) (change-own (editionIn w) c m b _) a (sym es ∙ t) (own-missing c (recordsOf w s z) p (ep s z) o)
 
         -- a message at the car's own record
-        pub takes-own : (i : ℕ) (d r : Record) (x : Checked Kept) → p ≡ Own i → r ≡ getD (recordsOf w s z) i d → x ≡ ownRule m g r → settled (stationOf w s z) i c x ≡ ruleOf (forRecord (ownMessageOf m g))
+        pub takes-own : (i : ℕ) (d r : Record) (x : Checked Kept) → p ≡ Own i → r ≡ getD (recordsOf w s z) i d → x ≡ ownRule (editionIn w) m b r → settled (stationOf w s z) i c x ≡ ruleOf (forRecord (ownMessageOf m b))
         unfolding stationOf
-        takes-own i d r x e er ex = own-settled (stationOf w s z) c (ownMessageOf m g) (ownRule m g) (change-own c m g _) i d x (a, sym es ∙ t) (own-found c (recordsOf w s z) p i (ep s z) e) (ex ∙ ap (ownRule m g) er)
+        takes-own i d r x e er ex = own-settled (stationOf w s z) c (ownMessageOf m b) (ownRule (editionIn w) m b) (change-own (editionIn w) c m b _) i d x (a, sym es ∙ t) (own-found c (recordsOf w s z) p i (ep s z) e) (ex ∙ ap (ownRule (editionIn w) m b) er)
 
 -- ---- the call
 
 module _ (w s z octets out : List ℕ) (o : Configuration) (st : State) (j : Judged) (eo : o ≡ configOf w) (es : st ≡ stateOf w)
-    (ej : judgedOf j (groupsOf (readRules octets)) ≡ judgeRule o st (length out) octets) where
+    (ej : judgedOf j (besideOf (readRules (o .edition) octets)) ≡ judgeRule o st (length out) octets) where
   -- what judging gives of the station of the words
-  judged-here : (k : Judged) → j ≡ k → judgeRule (stationOf w s z .config) (stationOf w s z .state) (length out) octets ≡ judgedOf k (groupsOf (readRules octets))
+  judged-here : (k : Judged) → j ≡ k → judgeRule (stationOf w s z .config) (stationOf w s z .state) (length out) octets ≡ judgedOf k (besideOf (readRules (editionIn w) octets))
   unfolding stationOf
-  judged-here k t = sym (ap₂ (λ (p : Configuration) (q : State). judgeRule p q (length out) octets) eo es) ∙ sym ej ∙ ap (λ (x : Judged). judgedOf x (groupsOf (readRules octets))) t
+  judged-here k t =
+      sym (ap₂ (λ (p : Configuration) (q : State). judgeRule p q (length out) octets) eo es)
+      ∙ sym ej
+      ∙ ap₂ (λ (x : Judged) (p : Configuration). judgedOf x (besideOf (readRules (p .edition) octets))) t eo
 
   -- the promise, from what the rule of the judged request comes to
-  pub frame-lent : (k : Judged) (exit v t y : List ℕ) (r : Answered) → j ≡ k → Comes (andThen (judgedOf k (groupsOf (readRules octets))) (taken (stationOf w s z))) w s z out exit v t y r
+  pub frame-lent : (k : Judged) (exit v t y : List ℕ) (r : Answered) → j ≡ k → Comes (andThen (judgedOf k (besideOf (readRules (editionIn w) octets))) (taken (stationOf w s z))) w s z out exit v t y r
       → Lent (calls.frame octets (length out)) w s z out exit v t y r
   unfolding step outcome sharedStep
   frame-lent k exit v t y r e h =
@@ -152,3 +157,8 @@ module _ (w s z octets out : List ℕ) (o : Configuration) (st : State) (j : Jud
   frame-ready c m t =
       let shown = judges (stationOf w s z .config) (stationOf w s z .state) (length out) octets _ (judged-here (judged.Taken c m) t) in
       record { good = shown .good; kept = meant w s z; car = shown .car; room = shown .room }
+
+  -- and it is one that octets can ask for
+  pub frame-octets : (c : CarAddress) (m : code.Request) → j ≡ judged.Taken c m → Octets octets → OctetRequest (editionIn w) (requestOf m (besideOf (readRules (editionIn w) octets)))
+  unfolding stationOf
+  frame-octets c m t h = judged-octets (stationOf w s z .config) (stationOf w s z .state) (length out) octets _ h (judged-here (judged.Taken c m) t)

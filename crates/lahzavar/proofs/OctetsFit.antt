@@ -1,17 +1,18 @@
 -- No call writes more than the least output, so the 32 binary digits of an answer's octets are their whole number.
 use Prim.Native.Nat.{ℕ, zero, suc, _+_, _*_, _-_, _≤_}
-use mathlib.Core.Path.{_≡_, refl, ap, subst, _∙_}
+use mathlib.Core.Path.{_≡_, refl, sym, ap, subst, _∙_}
 use mathlib.Core.Bool.{Bool, true, false, not, _&&_}
 use mathlib.Core.List.{List, [], _∷_, _++_, map}
 use native.Mathlib.Omega.{arith}
 use lib.Dec.{eqb, leb, ltb}
-use lib.ListN.{length, length-append, length-map, length-replicate}
+use lib.ListN.{length, take, length-append, length-map, length-replicate, length-take}
 use Rattle.messages.specs.declared.CarAddress.{CarAddress}
+use Rattle.messages.specs.declared.Edition.{Edition}
 use Rattle.messages.specs.declared.RunId.{RunId}
-use Rattle.messages.specs.Layout.{Field, is, number, low, octets, reserved, Values, size, encode}
+use Rattle.messages.specs.Layout.{Field, is, number, such, low, free, octets, reserved, Values, size, encode}
 use Rattle.octets.specs.Octets.{bytes, lowBytes}
-use Rattle.messages.specs.Reading.{Checked, no, yes}
-use Rattle.messages.specs.Table.{Message, attenCharInd, groupCount, typeOf, head, payload, filledSize, writtenSize}
+use Rattle.messages.specs.Reading.{Checked, no, yes, besideOf, readRules}
+use Rattle.messages.specs.Table.{Message, attenCharInd, slacMatchReq, groupCount, idOctets, typeOf, head, payload, filledSize, writtenSize}
 use Rattle.messages.specs.Writing as writing
 use Rattle.messages.specs.Writing.{headOctets, payloadOctets, padding}
 use Rattle.octets.proofs.OctetLaws.{length-bytes, length-low}
@@ -23,7 +24,7 @@ use Rattle.rules.specs.declared.Turn.{Turn}
 use Rattle.rules.specs.declared.State.{State}
 use Rattle.rules.specs.declared.State.the-variants.{Unmatched, Matching, Joining, Matched}
 use Rattle.rules.specs.Calls.{Call, frame, tick, pilot, terminate, linkUp}
-use Rattle.ends.specs.Constants.{joiningTime, soundCount}
+use Rattle.ends.specs.Constants.{joiningTime}
 use Rattle.rules.specs.Constants.{recordCount, leastOutput}
 use Rattle.rules.specs.Events.{plugged, isB, ended, pilotDone, linkRule}
 use Rattle.rules.specs.Validation.{firstResult, turn}
@@ -31,15 +32,20 @@ use Rattle.rules.specs.Frames.{Kept, Change, putBack, startRule, soundRule, pro
 use Rattle.ends.specs.Lists.{All, only, joins}
 use Rattle.ends.specs.Outcomes.{Outcome, framesOf, joined, andThen, outcomeOf}
 use Rattle.rules.specs.Received.{RecordMessage, parmReq, start, sound, profile, rsp, validateFirst, validateSecond, Request, forRecord, matchReq, Received, received}
-use Rattle.rules.specs.Records.{sameCar, sameRun, isEmpty, isHeld, holds, mine, freePlaces, freed, merged, added, counted}
+use Rattle.rules.specs.Records.{sameCar, sameRun, isEmpty, isHeld, holds, mine, freePlaces, freed, groupsKept, counted}
 use Rattle.rules.specs.Replies.{Reply, parmCnf, matchCnf, report, confirmation, isReport, isConfirmation, mean, reportOf, messageTo, frameTo, framesTo}
 use Rattle.rules.specs.Rules.{rule, outcome}
-use Rattle.rules.specs.Sounds.{isIn}
 use Rattle.rules.specs.Stations.{Shared, Inner, shared, inner, Done}
 use Rattle.rules.specs.Ticks.{tickElapsed, windowEnds, tickPhase, repliesOf, tickFrames, framesOfAll, allFrames, admissionDone, joiningDone, tickDone}
 use Rattle.ends.proofs.ListLaws.{all-only, joins-append}
 use Rattle.ends.proofs.Logic.{split, OnYes, on-check}
+use Rattle.messages.proofs.FrameLaws.{slacMatchReq-ids, stands-read}
+use Rattle.messages.proofs.WriteLaws.{whole-none}
+use Rattle.rules.specs.FromOctets.{Holds}
 use Rattle.rules.proofs.RuleLaws.{on-own, on-run}
+use Rattle.rules.proofs.PhaseLaws.{on-start, on-sound, on-profile, on-rsp, on-first, on-second}
+use Rattle.rules.proofs.ReceivedLaws.{admitted-values}
+use Rattle.rules.proofs.SpreadLaws.{merged-length}
 use Rattle.words.specs.Words.{stationOf}
 use Rattle.words.proofs.Meant.{sums-few}
 use Rattle.words.proofs.RecordWords.{length-records}
@@ -47,45 +53,52 @@ use Rattle.lahzavar.specs.Answers.{answered}
 
 -- ---- the length of a frame
 
--- no run of octets is longer than its field
-abbrev Short : (fs : List Field) → Values fs → Type 0
-Short [] vs = Unit {0}
-Short (is n v ∷ fs) vs = Short fs vs
-Short (number n ∷ fs) vs = Short fs (vs .1)
-Short (low n b ∷ fs) vs = Short fs (vs .1)
-Short (octets n ∷ fs) vs = (length (vs .0) ≤ n) × Short fs (vs .1)
-Short (reserved n ∷ fs) vs = Short fs vs
+-- how many octets a layout takes at most, by the runs of octets among its values
+abbrev roomOf : (fs : List Field) → Values fs → ℕ
+roomOf [] vs = 0
+roomOf (is n v ∷ fs) vs = n + roomOf fs vs
+roomOf (number n ∷ fs) vs = n + roomOf fs (vs .1)
+roomOf (such n p ∷ fs) vs = n + roomOf fs (vs .1)
+roomOf (low n b ∷ fs) vs = n + roomOf fs (vs .1)
+roomOf (free n b ∷ fs) vs = length (vs .0) + roomOf fs (vs .1)
+roomOf (octets n z ∷ fs) vs = length (vs .0) + roomOf fs (vs .1)
+roomOf (reserved n ∷ fs) vs = n + roomOf fs vs
 
-encode-short : (fs : List Field) (vs : Values fs) → Short fs vs → length (encode fs vs) ≤ size fs
-encode-short [] vs h = omega arith
-encode-short (is n v ∷ fs) vs h = omega (arith, length-append (bytes n v) (encode fs vs), length-bytes n v, encode-short fs vs h)
-encode-short (number n ∷ fs) vs h = omega (arith, length-append (bytes n (vs .0)) (encode fs (vs .1)), length-bytes n (vs .0), encode-short fs (vs .1) h)
-encode-short (low n b ∷ fs) vs h = omega (arith, length-append (lowBytes n (vs .0)) (encode fs (vs .1)), length-low n (vs .0), encode-short fs (vs .1) h)
-encode-short (octets n ∷ fs) vs h = omega (arith, length-append (vs .0) (encode fs (vs .1)), h .0, encode-short fs (vs .1) (h .1))
-encode-short (reserved n ∷ fs) vs h = omega (arith, length-append (bytes n 0) (encode fs vs), length-bytes n 0, encode-short fs vs h)
+encode-short : (fs : List Field) (vs : Values fs) → length (encode fs vs) ≤ roomOf fs vs
+encode-short [] vs = omega arith
+encode-short (is n v ∷ fs) vs = omega (arith, length-append (bytes n v) (encode fs vs), length-bytes n v, encode-short fs vs)
+encode-short (number n ∷ fs) vs = omega (arith, length-append (bytes n (vs .0)) (encode fs (vs .1)), length-bytes n (vs .0), encode-short fs (vs .1))
+encode-short (such n p ∷ fs) vs = omega (arith, length-append (bytes n (vs .0)) (encode fs (vs .1)), length-bytes n (vs .0), encode-short fs (vs .1))
+encode-short (low n b ∷ fs) vs = omega (arith, length-append (lowBytes n (vs .0)) (encode fs (vs .1)), length-low n (vs .0), encode-short fs (vs .1))
+encode-short (free n b ∷ fs) vs = omega (arith, length-append (vs .0) (encode fs (vs .1)), encode-short fs (vs .1))
+encode-short (octets n z ∷ fs) vs = omega (arith, length-append (take n (vs .0)) (encode fs (vs .1)), length-take n (vs .0), encode-short fs (vs .1))
+encode-short (reserved n ∷ fs) vs = omega (arith, length-append (bytes n 0) (encode fs vs), length-bytes n 0, encode-short fs vs)
 
-frame-short : (m : Message) → Short (payload (m .kind) (m .dst) (m .src)) (m .values)
-    → length (writing.frame m) ≤ size head + (size (payload (m .kind) (m .dst) (m .src)) + (writtenSize (m .kind) - filledSize (m .kind)))
+frame-short : (m : Message) → length (writing.frame m) ≤ size head + (roomOf (payload (m .edition) (m .kind) (m .count) (m .dst) (m .src)) (m .values) + (writtenSize (m .kind) (m .count) - filledSize (m .kind) (m .count)))
 unfolding writing.frame
-frame-short m h = omega (
+frame-short m = omega (
   arith,
-  length-append (headOctets m) (payloadOctets m ++ padding (m .kind)),
-  length-append (payloadOctets m) (padding (m .kind)),
-  encode-short head (m .dst, (m .src, (typeOf (m .kind), tt))) tt,
-  encode-short (payload (m .kind) (m .dst) (m .src)) (m .values) h,
-  length-replicate {A = ℕ} (writtenSize (m .kind) - filledSize (m .kind)) 0,
+  length-append (headOctets m) (payloadOctets m ++ padding (m .kind) (m .count)),
+  length-append (payloadOctets m) (padding (m .kind) (m .count)),
+  encode-short head (m .dst, (m .src, (typeOf (m .kind), tt))),
+  encode-short (payload (m .edition) (m .kind) (m .count) (m .dst) (m .src)) (m .values),
+  length-replicate {A = ℕ} (writtenSize (m .kind) (m .count) - filledSize (m .kind) (m .count)) 0,
 )
 
 -- ---- replies
 
 abbrev reportSize : ℕ
-reportSize = writtenSize attenCharInd
+reportSize = writtenSize attenCharInd groupCount
+
+-- two identifiers, neither longer than one is
+abbrev ShortIds : List ℕ → List ℕ → Type 0
+ShortIds a b = (length a ≤ idOctets) × (length b ≤ idOctets)
 
 -- a report has a value for each group at most
 abbrev Fits : Reply → Type 0
-Fits (parmCnf run) = Unit {0}
-Fits (matchCnf run) = Unit {0}
-Fits (report run n vs) = length vs ≤ groupCount
+Fits (parmCnf later run) = Unit {0}
+Fits (matchCnf run a b) = ShortIds a b
+Fits (report run n g vs) = length vs ≤ groupCount
 Fits (confirmation k x) = Unit {0}
 
 -- one reply at most
@@ -97,10 +110,10 @@ One (t ∷ (u ∷ ts)) = ⊥
 module _ (o : Configuration) (c : CarAddress) where
   reply-short : (t : Reply) → Fits t → length (frameTo o c t) ≤ reportSize
   unfolding frameTo
-  reply-short (parmCnf run) h = omega (arith, frame-short (messageTo o c (parmCnf run)) tt)
-  reply-short (matchCnf run) h = omega (arith, frame-short (messageTo o c (matchCnf run)) tt)
-  reply-short (report run n vs) h = omega (arith, frame-short (messageTo o c (report run n vs)) (h, tt))
-  reply-short (confirmation k x) h = omega (arith, frame-short (messageTo o c (confirmation k x)) tt)
+  reply-short (parmCnf later run) h = omega (arith, frame-short (messageTo o c (parmCnf later run)))
+  reply-short (matchCnf run a b) h = omega (arith, frame-short (messageTo o c (matchCnf run a b)))
+  reply-short (report run n g vs) h = omega (arith, frame-short (messageTo o c (report run n g vs)), whole-none .first)
+  reply-short (confirmation k x) h = omega (arith, frame-short (messageTo o c (confirmation k x)))
 
   replies-short : (ts : List Reply) → One ts → length (joined (framesTo o c ts)) ≤ reportSize
   unfolding joins
@@ -112,9 +125,9 @@ module _ (o : Configuration) (c : CarAddress) where
   sorts-short : (ts : List Reply) → One ts → length (joined (framesTo o c (only isReport ts))) + length (joined (framesTo o c (only isConfirmation ts))) ≤ reportSize
   unfolding joins only isReport isConfirmation
   sorts-short [] h = omega arith
-  sorts-short (parmCnf run ∷ []) h = omega arith
-  sorts-short (matchCnf run ∷ []) h = omega arith
-  sorts-short (report run n vs ∷ []) h = omega (arith, replies-short (report run n vs ∷ []) h)
+  sorts-short (parmCnf later run ∷ []) h = omega arith
+  sorts-short (matchCnf run a b ∷ []) h = omega arith
+  sorts-short (report run n g vs ∷ []) h = omega (arith, replies-short (report run n g vs ∷ []) h)
   sorts-short (confirmation k x ∷ []) h = omega (arith, replies-short (confirmation k x ∷ []) h)
   sorts-short (t ∷ (u ∷ ts)) h = absurd h
 
@@ -181,94 +194,47 @@ OneKept k = One (k .replies)
 abbrev OneChange : Change → Type 0
 OneChange x = One (x .replies)
 
-start-one : (r : Record) (p : Phase) → OnYes OneKept (startRule r p)
-unfolding startRule
-start-one r (Asked t) = tt
-start-one r (Sounding t) = tt
-start-one r (Reported t n) = tt
-start-one r (Awaiting t) = tt
-start-one r (Ready t) = tt
-start-one r (Counting t n b) = tt
-start-one r (Success t) = tt
-
-sound-one : (k : ℕ) (r : Record) (p : Phase) → OnYes OneKept (soundRule k r p)
-unfolding soundRule
-sound-one k r (Asked t) = tt
-sound-one k r (Sounding t) = on-check OneKept (ltb k soundCount) 13 _ (λ a. on-check OneKept (not (isIn k (r .heard))) 13 _ (λ b. tt))
-sound-one k r (Reported t n) = tt
-sound-one k r (Awaiting t) = tt
-sound-one k r (Ready t) = tt
-sound-one k r (Counting t n b) = tt
-sound-one k r (Success t) = tt
-
-added-long : (xs vs : List ℕ) → length (added xs vs) ≡ length xs
-unfolding merged
-added-long [] vs = refl
-added-long (x ∷ xs) [] = refl
-added-long (x ∷ xs) (v ∷ vs) = ap suc (added-long xs vs)
-
-counted-sums : (vs : List ℕ) (r : Record) → Sums r → Sums (counted vs r)
+counted-sums : (g : ℕ) (vs : List ℕ) (r : Record) → Sums r → Sums (counted g vs r)
 unfolding counted
-counted-sums vs r h = omega (arith, added-long (r .sums) vs)
+counted-sums g vs r h = omega (arith, merged-length _+_ (r .sums) vs)
 
-profile-one : (vs : List ℕ) (r : Record) → Sums r → (p : Phase) → OnYes OneKept (profileRule vs r p)
-unfolding profileRule
-profile-one vs r h (Asked t) = tt
-profile-one vs r h (Sounding t) = split (eqb (r .profiles + 1) soundCount) (λ a. rw a (report-fits (counted vs r) (counted-sums vs r h))) (λ a. rw a tt)
-profile-one vs r h (Reported t n) = tt
-profile-one vs r h (Awaiting t) = tt
-profile-one vs r h (Ready t) = tt
-profile-one vs r h (Counting t n b) = tt
-profile-one vs r h (Success t) = tt
-
-rsp-one : (r : Record) (p : Phase) → OnYes OneKept (rspRule r p)
-unfolding rspRule
-rsp-one r (Asked t) = tt
-rsp-one r (Sounding t) = tt
-rsp-one r (Reported t n) = tt
-rsp-one r (Awaiting t) = tt
-rsp-one r (Ready t) = tt
-rsp-one r (Counting t n b) = tt
-rsp-one r (Success t) = tt
-
-first-one : (x : ℕ) (r : Record) (p : Phase) → OnYes OneKept (firstRule x r p)
-unfolding firstRule
-first-one x r (Asked t) = tt
-first-one x r (Sounding t) = tt
-first-one x r (Reported t n) = tt
-first-one x r (Awaiting t) = tt
-first-one x r (Ready t) = tt
-first-one x r (Counting t n b) = tt
-first-one x r (Success t) = tt
-
-second-one : (k : ℕ) (r : Record) (p : Phase) → OnYes OneKept (secondRule k r p)
-unfolding secondRule
-second-one k r (Asked t) = tt
-second-one k r (Sounding t) = tt
-second-one k r (Reported t n) = tt
-second-one k r (Awaiting t) = tt
-second-one k r (Ready t) = tt
-second-one k r (Counting t n b) = tt
-second-one k r (Success t) = tt
+profile-one : (e : Edition) (g : ℕ) (vs : List ℕ) (r : Record) → Sums r → OnYes OneKept (profileRule e g vs r (r .phase))
+profile-one e g vs r h = on-profile OneKept e r g vs (r .phase) (λ t q f a. report-fits (counted (groupsKept e g) vs r) (counted-sums (groupsKept e g) vs r h)) (λ t q f a. tt)
 
 back-one : (w : Checked Kept) → OnYes OneKept w → OnYes OneChange (putBack w)
 back-one (no n) h = tt
 back-one (yes k) h = h
 
-parm-one : (c : CarAddress) (run : RunId) (a free : ℕ) (own : List Record) → OnYes OneChange (parmRule c run a free own)
+parm-one : (e : Edition) (c : CarAddress) (run : RunId) (a n : ℕ) (own : List Record) → OnYes OneChange (parmRule e c run a n own)
 unfolding parmRule requested
-parm-one c run a free (r ∷ own) = tt
-parm-one c run a free [] = on-check OneChange (ltb 0 a) 9 _ (λ g. on-check OneChange (ltb 0 free) 10 _ (λ h. tt))
+parm-one e c run a n (r ∷ own) = tt
+parm-one e c run a n [] = on-check OneChange (ltb 0 a) 9 _ (λ g. on-check OneChange (ltb 0 n) 10 _ (λ h. tt))
 
-change-one : (c : CarAddress) (m : RecordMessage) (a free x : ℕ) (own : List Record) → All Sums own → OnYes OneChange (changeRule c m a free x own)
+change-one : (e : Edition) (c : CarAddress) (m : RecordMessage) (a n x : ℕ) (own : List Record) → All Sums own → OnYes OneChange (changeRule e c m a n x own)
 unfolding changeRule
-change-one c (parmReq run) a free x own g = on-check OneChange (not (isEmpty run)) 21 _ (λ e. parm-one c run a free own)
-change-one c (start run) a free x own g = back-one (atRun run own (λ (r : Record). startRule r (r .phase))) (on-run OneKept run own (λ (r : Record). startRule r (r .phase)) (λ r rs e. start-one r (r .phase)))
-change-one c (sound run k) a free x own g = back-one (atRun run own (λ (r : Record). soundRule k r (r .phase))) (on-run OneKept run own (λ (r : Record). soundRule k r (r .phase)) (λ r rs e. sound-one k r (r .phase)))
-change-one c (profile vs) a free x own g = back-one (atOwn own (λ (r : Record). profileRule vs r (r .phase))) (on-own OneKept own (λ (r : Record). profileRule vs r (r .phase)) (λ r rs e. profile-one vs r (subst (All Sums) e g .0) (r .phase)))
-change-one c (rsp run) a free x own g = back-one (atRun run own (λ (r : Record). rspRule r (r .phase))) (on-run OneKept run own (λ (r : Record). rspRule r (r .phase)) (λ r rs e. rsp-one r (r .phase)))
-change-one c validateFirst a free x own g = back-one (atOwn own (λ (r : Record). firstRule x r (r .phase))) (on-own OneKept own (λ (r : Record). firstRule x r (r .phase)) (λ r rs e. first-one x r (r .phase)))
-change-one c (validateSecond k) a free x own g = back-one (atOwn own (λ (r : Record). secondRule k r (r .phase))) (on-own OneKept own (λ (r : Record). secondRule k r (r .phase)) (λ r rs e. second-one k r (r .phase)))
+change-one e c (parmReq run) a n x own g = on-check OneChange (not (isEmpty run)) 21 _ (λ q. parm-one e c run a n own)
+change-one e c (start run k) a n x own g = back-one (atRun run own (λ (r : Record). startRule e k r (r .phase))) (on-run OneKept run own (λ (r : Record). startRule e k r (r .phase)) (λ r rs q. on-start OneKept e r k (r .phase) (λ t p. tt) (λ t p. tt)))
+change-one e c (sound run k) a n x own g = back-one (atRun run own (λ (r : Record). soundRule e k r (r .phase))) (on-run OneKept run own (λ (r : Record). soundRule e k r (r .phase)) (λ r rs q. on-sound OneKept e r k (r .phase) (λ b d. tt)))
+change-one e c (profile k vs) a n x own g = back-one (atOwn own (λ (r : Record). profileRule e k vs r (r .phase))) (on-own OneKept own (λ (r : Record). profileRule e k vs r (r .phase)) (λ r rs q. profile-one e k vs r (subst (All Sums) q g .0)))
+change-one e c (rsp run) a n x own g = back-one (atRun run own (λ (r : Record). rspRule r (r .phase))) (on-run OneKept run own (λ (r : Record). rspRule r (r .phase)) (λ r rs q. on-rsp OneKept e r (r .phase) (λ t k p. tt)))
+change-one e c validateFirst a n x own g = back-one (atOwn own (λ (r : Record). firstRule x r (r .phase))) (on-own OneKept own (λ (r : Record). firstRule x r (r .phase)) (λ r rs q. on-first OneKept e r x (r .phase) (λ t p. tt)))
+change-one e c (validateSecond k) a n x own g = back-one (atOwn own (λ (r : Record). secondRule k r (r .phase))) (on-own OneKept own (λ (r : Record). secondRule k r (r .phase)) (λ r rs q. on-second OneKept e r k (r .phase) (λ t p. tt)))
+
+-- ---- the identifiers of a request
+
+module _ (e : Edition) (s : List ℕ) (m : Message) (q : readRules e s ≡ yes m) (k : m .kind ≡ slacMatchReq) where
+  ids-short : ShortIds (besideOf (yes m) .first) (besideOf (yes m) .second)
+  ids-short = (
+    subst (λ (l : List ℕ). length l ≤ idOctets) (stands-read e s m (m .count) refl (sym q) (slacMatchReq-ids .0) k ∙ ap (λ (x : Checked Message). besideOf x .first) q) (rw length-take (omega arith)),
+    subst (λ (l : List ℕ). length l ≤ idOctets) (stands-read e s m (m .count) refl (sym q) (slacMatchReq-ids .1) k ∙ ap (λ (x : Checked Message). besideOf x .second) q) (rw length-take (omega arith)),
+  )
+
+-- what a request has: identifiers that are short
+abbrev ShortRequest : Request → Type 0
+ShortRequest m = Holds (λ (g : ℕ) (vs : List ℕ). Unit {0}) (λ (t : ℕ). Unit {0}) ShortIds m
+
+admitted-short : (o : Configuration) (room : ℕ) (s : List ℕ) → OnYes (λ (y : Received). ShortRequest (y .request)) (admitted o room (received (o .edition) s))
+admitted-short o room s = admitted-values (λ (g : ℕ) (vs : List ℕ). Unit {0}) (λ (t : ℕ). Unit {0}) ShortIds (o .edition) o room s (λ m q. (λ k. tt, (λ k. tt, λ k. ids-short (o .edition) s m q k)))
 
 -- ---- the calls
 
@@ -287,18 +253,18 @@ any (yes x) = tt
 replies-little : (o : Configuration) (c : CarAddress) (ts : List Reply) → One ts → length (joined (framesTo o c ts)) ≤ leastOutput
 replies-little o c ts h = omega (arith, replies-short o c ts h)
 
-state-little : (o : Configuration) (st : State) (rs : List Record) (c : CarAddress) (m : Request) → All Sums rs → OnYes Little (stateRule o st rs c m)
+state-little : (o : Configuration) (st : State) (rs : List Record) (c : CarAddress) (m : Request) → ShortRequest m → All Sums rs → OnYes Little (stateRule o st rs c m)
 unfolding stateRule
-state-little o Unmatched rs c m g = tt
-state-little o (Matching a) rs c (forRecord m) g =
-    on-then OneChange Little (changeRule c m a (freePlaces rs) (firstResult (o .exempt) rs) (mine c rs)) (λ (x : Change). yes (changed o (Matching a) rs c x))
-    (change-one c m a (freePlaces rs) (firstResult (o .exempt) rs) (mine c rs) (all-only Sums (holds c) rs g)) (λ x h. replies-little o c (x .replies) h)
-state-little o (Matching a) rs c (matchReq run) g =
-    on-then (λ (x : Unit {0}). Unit {0}) Little (matchRule run (mine c rs)) (λ (x : Unit {0}). yes (confirmed o (Joining joiningTime c run) (map freed rs) c run))
-    (any (matchRule run (mine c rs))) (λ x h. replies-little o c (matchCnf run ∷ []) tt)
-state-little o (Joining l d k) rs c (forRecord m) g = tt
-state-little o (Joining l d k) rs c (matchReq run) g = on-check Little (sameCar c d && sameRun run k) 11 (yes (confirmed o (Joining l d k) rs c run)) (λ e. replies-little o c (matchCnf run ∷ []) tt)
-state-little o Matched rs c m g = tt
+state-little o Unmatched rs c m d g = tt
+state-little o (Matching a) rs c (forRecord m) d g =
+    on-then OneChange Little (changeRule (o .edition) c m a (freePlaces rs) (firstResult (o .exempt) rs) (mine c rs)) (λ (x : Change). yes (changed o (Matching a) rs c x))
+    (change-one (o .edition) c m a (freePlaces rs) (firstResult (o .exempt) rs) (mine c rs) (all-only Sums (holds c) rs g)) (λ x h. replies-little o c (x .replies) h)
+state-little o (Matching a) rs c (matchReq run p q) d g =
+    on-then (λ (x : Unit {0}). Unit {0}) Little (matchRule run (mine c rs)) (λ (x : Unit {0}). yes (confirmed o (Joining joiningTime c run) (map freed rs) c run p q))
+    (any (matchRule run (mine c rs))) (λ x h. replies-little o c (matchCnf run p q ∷ []) d)
+state-little o (Joining l u k) rs c (forRecord m) d g = tt
+state-little o (Joining l u k) rs c (matchReq run p q) d g = on-check Little (sameCar c u && sameRun run k) 11 (yes (confirmed o (Joining l u k) rs c run p q)) (λ e. replies-little o c (matchCnf run p q ∷ []) d)
+state-little o Matched rs c m d g = tt
 
 admission-little : (a : ℕ) (b : Bool) (rs : List Record) (fs : List (List ℕ)) → length (joined fs) ≤ leastOutput → Little (admissionDone a b rs fs)
 unfolding admissionDone
@@ -335,8 +301,8 @@ link-little Matched rs = tt
 rule-little : (o : Shared) (i : Inner) (x : Call) → All Sums (i .records) → length (i .records) ≡ recordCount → OnYes Little (rule o i x)
 unfolding rule joins
 rule-little o i (frame s room) g n =
-    on-then (λ (y : Received). Unit {0}) Little (admitted (o .config) room (received s)) (λ (y : Received). stateRule (o .config) (i .state) (i .records) (y .car) (y .request))
-    (any (admitted (o .config) room (received s))) (λ y h. state-little (o .config) (i .state) (i .records) (y .car) (y .request) g)
+    on-then (λ (y : Received). ShortRequest (y .request)) Little (admitted (o .config) room (received (o .config .edition) s)) (λ (y : Received). stateRule (o .config) (i .state) (i .records) (y .car) (y .request))
+    (admitted-short (o .config) room s) (λ y h. state-little (o .config) (i .state) (i .records) (y .car) (y .request) h g)
 rule-little o i (tick t room) g n =
     on-then (λ (e : ℕ). Unit {0}) Little (tickElapsed o t room) (λ (e : ℕ). yes (tickDone (o .config) (isB (o .pilot)) e (i .state) (i .records)))
     (any (tickElapsed o t room)) (λ e h. tick-little (o .config) (isB (o .pilot)) e (i .state) (i .records) g n)

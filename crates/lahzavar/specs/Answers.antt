@@ -10,9 +10,9 @@ use Rattle.ends.specs.Answers.{indicationNumber, Summary, summary}
 use Rattle.lahzavar.specs.declared.Answered.{Answered}
 use Rattle.lahzavar.specs.declared.Heard.{Heard}
 
--- 0.6.0: 65536 times the major number, 256 times the minor, and the patch
+-- 0.7.0: 65536 times the major number, 256 times the minor, and the patch
 abbrev pub version : ℕ
-version = 65536 * 0 + 256 * 6 + 0
+version = 65536 * 0 + 256 * 7 + 0
 
 -- a refusal's number and nothing else, or 0 with the numbers of what was sent; the octets' number has 32 binary digits, which hold all of it (`octets-exact`)
 abbrev pub saidOf : Checked Summary → Answered

@@ -1,9 +1,10 @@
 -- What the calls on a lent station promise.
 use Prim.Native.Nat.{ℕ}
 use mathlib.Core.Path.{_≡_}
-use mathlib.Core.Bool.{Bool}
+use mathlib.Core.Bool.{Bool, cond}
 use mathlib.Core.List.{List}
 use lib.Dec.{leb}
+use Rattle.messages.specs.declared.Edition.{Edition}
 use Rattle.messages.specs.declared.ModemAddress.{ModemAddress}
 use Rattle.messages.specs.declared.Nid.{Nid}
 use Rattle.messages.specs.declared.Nmk.{Nmk}
@@ -57,7 +58,11 @@ PilotLent k reading w s z = Leaves (pilotStep (stationOf w s z) reading (pilotBy
 
 -- ---- configuring
 
+-- our address, or none where the number names no edition: "another is 16 at the border to C"
+abbrev pub ownAddress : ℕ → ℕ → ℕ
+ownAddress k address = cond (leb k 1) address 0
+
 -- the words, sums and spread afterwards mean the station that configuring gives, a refused one too
-pub record Configures (address : StationAddress) (modem : ModemAddress) (nid : Nid) (nmk : Nmk) (exempt : Bool) (v t y : List ℕ) (r : Answered) : Type 0 where
-  pub station : stationOf v t y ≡ configured address modem nid nmk exempt
+pub record Configures (address : StationAddress) (modem : ModemAddress) (nid : Nid) (nmk : Nmk) (exempt : Bool) (edition : Edition) (v t y : List ℕ) (r : Answered) : Type 0 where
+  pub station : stationOf v t y ≡ configured address modem nid nmk exempt edition
   pub answer : r ≡ answered (configuring address modem nid)

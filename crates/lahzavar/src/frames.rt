@@ -5,7 +5,9 @@ use crate::storing;
 use ends::Answer;
 use ends::Indication;
 use messages::CarAddress;
+use messages::Edition;
 use messages::GroupValues;
+use messages::Ids;
 use messages::Message;
 use messages::Refusal;
 use messages::RunId;
@@ -27,14 +29,16 @@ use rules::State;
 use words::StationSpread;
 use words::StationSums;
 use words::StationWords;
+ghost use Prim.Native.Nat.{_<_};
 ghost use mathlib.Core.List.{[], _∷_};
 ghost use lib.ListN.{length};
-ghost use Rattle.messages.specs.Answers.{messageOf};
-ghost use Rattle.messages.specs.Reading.{groupsOf, readRules};
+ghost use Rattle.messages.specs.Answers.{messageOf, besides};
+ghost use Rattle.messages.specs.Reading.{besideOf, readRules};
 ghost use Rattle.messages.specs.Writing as writing;
 ghost use Rattle.rules.specs.Calls as calls;
 ghost use Rattle.rules.specs.Frames.{keeps};
-ghost use Rattle.rules.specs.Invariant.{GoodRecord};
+ghost use Rattle.rules.specs.FromOctets.{OctetRequest};
+ghost use Rattle.rules.specs.Invariant.{TryFits, GoodRecord};
 ghost use Rattle.rules.specs.Received.{forRecord, parmReq};
 ghost use Rattle.rules.specs.Records.{owned, fresh};
 ghost use Rattle.rules.specs.Replies.{parmCnf, reportOf};
@@ -42,7 +46,7 @@ ghost use Rattle.records.specs.Requests.{effectOf};
 ghost use Rattle.ends.specs.Sending.{Writable};
 ghost use Rattle.station.specs.Frames.{Ready, KeepsGood};
 ghost use Rattle.receiving.specs.Judge.{ownMessageOf};
-ghost use Rattle.words.specs.Words.{stationOf};
+ghost use Rattle.words.specs.Words.{editionIn, stationOf};
 ghost use Rattle.lahzavar.specs.Frames.{Takes, Puts, Stores};
 ghost use Rattle.lahzavar.specs.Lent.{Lent};
 
@@ -53,42 +57,50 @@ fn sent(
     spread: &mut StationSpread,
     i: usize,
     r: Record,
+    edition: Edition,
     message: Message,
     values: GroupValues,
+    ids: Ids,
     out: &mut [u8],
 ) -> Answered
-    requires { ⌜ GoodRecord r × Writable (messageOf message values) (length (now out)) ⌝ }
-    ensures { λ x. ⌜ Stores i r (writing.frame (messageOf message values) ∷ []) (now (words .entry)) (now (sums .entry)) (now (spread .entry)) (now (out .entry)) (now (out .exit)) (now (words .exit)) (now (sums .exit)) (now (spread .exit)) x ⌝ }
+    requires { ⌜ GoodRecord (editionIn (now words)) r × Writable (messageOf edition message (besides values ids)) (length (now out)) ⌝ }
+    ensures { λ x. ⌜ Stores i r (writing.frame (messageOf edition message (besides values ids)) ∷ []) (now (words .entry)) (now (sums .entry)) (now (spread .entry)) (now (out .entry)) (now (out .exit)) (now (words .exit)) (now (sums .exit)) (now (spread .exit)) x ⌝ }
 {
     words::put_record(words, sums, spread, i, r);
-    let answer = ends::send(message, values, Indication::Nothing, out);
+    let answer = ends::send(edition, message, values, ids, Indication::Nothing, out);
     answers::answered(answer)
 }
 
-// PARM.REQ at place i: the record anew, and PARM.CNF.
+// PARM.REQ at place i: the record anew, in a first or a later try, and PARM.CNF.
 fn admit(
     words: &mut StationWords,
     sums: &mut StationSums,
     spread: &mut StationSpread,
     i: usize,
     car: CarAddress,
+    later: bool,
     run: RunId,
     out: &mut [u8],
 ) -> Answered
-    requires { ⌜ Ready (stationOf (now words) (now sums) (now spread)) car (now out) ⌝ }
-    ensures { λ r. ⌜ Puts i car (keeps (fresh car run) (parmCnf run ∷ [])) (now (words .entry)) (now (sums .entry)) (now (spread .entry)) (now (out .entry)) (now (out .exit)) (now (words .exit)) (now (sums .exit)) (now (spread .exit)) r ⌝ }
+    requires { ⌜ Ready (stationOf (now words) (now sums) (now spread)) car (now out) × TryFits (editionIn (now words)) later ⌝ }
+    ensures { λ r. ⌜ Puts i car (keeps (fresh later car run) (parmCnf later run ∷ [])) (now (words .entry)) (now (sums .entry)) (now (spread .entry)) (now (out .entry)) (now (out .exit)) (now (words .exit)) (now (sums .exit)) (now (spread .exit)) r ⌝ }
 {
     let config = words::config_of(words);
-    let r = changes::owned(car, changes::fresh(car, run));
-    let message = reply::parm_cnf(config, car, run);
+    let edition = config.edition;
+    let r = changes::owned(car, changes::fresh(later, car, run));
+    let message = reply::parm_cnf(config, car, later, run);
+    let groups = messages::no_groups();
+    let ids = messages::no_ids();
     sent(
         words,
         sums,
         spread,
         i,
         r,
+        edition,
         message,
-        messages::no_groups(),
+        groups,
+        ids,
         out,
     )
 }
@@ -109,10 +121,12 @@ fn parm_req(
     let State::Matching(left) = state else {
         return answers::refused(Refusal::WrongState);
     };
+    let edition = words::edition_of(words);
     let found = words::find(words, car);
+    let later = admission::is_later(edition, found);
     let admission = admission::place_for(run, found, left);
     match admission {
-        Admission::At(i) => admit(words, sums, spread, i, car, run, out),
+        Admission::At(i) => admit(words, sums, spread, i, car, later, run, out),
         Admission::Refused(refusal) => answers::refused(refusal),
     }
 }
@@ -127,13 +141,27 @@ fn report(
     left: Record,
     out: &mut [u8],
 ) -> Answered
-    requires { ⌜ Ready (stationOf (now words) (now sums) (now spread)) car (now out) × GoodRecord (owned car left) ⌝ }
+    requires { ⌜ Ready (stationOf (now words) (now sums) (now spread)) car (now out) × (GoodRecord (editionIn (now words)) (owned car left) × (0 < left .profiles)) ⌝ }
     ensures { λ r. ⌜ Puts i car (keeps left (reportOf left ∷ [])) (now (words .entry)) (now (sums .entry)) (now (spread .entry)) (now (out .entry)) (now (out .exit)) (now (words .exit)) (now (sums .exit)) (now (spread .exit)) r ⌝ }
 {
     let config = words::config_of(words);
+    let edition = config.edition;
     let r = changes::owned(car, left);
     let message = reply::report(config, car, r);
-    sent(words, sums, spread, i, r, message, report::values(r), out)
+    let values = report::values(r);
+    let ids = messages::no_ids();
+    sent(
+        words,
+        sums,
+        spread,
+        i,
+        r,
+        edition,
+        message,
+        values,
+        ids,
+        out,
+    )
 }
 
 // What a message at the record at place i comes to: a refusal, the record put back, or its report too.
@@ -146,7 +174,7 @@ fn settle(
     kept: Kept,
     out: &mut [u8],
 ) -> Answered
-    requires { ⌜ Ready (stationOf (now words) (now sums) (now spread)) car (now out) × KeepsGood car (effectOf (kept .kept) (kept .effect)) ⌝ }
+    requires { ⌜ Ready (stationOf (now words) (now sums) (now spread)) car (now out) × KeepsGood (editionIn (now words)) car (effectOf (kept .kept) (kept .effect)) ⌝ }
     ensures { λ r. ⌜ Puts i car (effectOf (kept .kept) (kept .effect)) (now (words .entry)) (now (sums .entry)) (now (spread .entry)) (now (out .entry)) (now (out .exit)) (now (words .exit)) (now (sums .exit)) (now (spread .exit)) r ⌝ }
 {
     let left = kept.kept;
@@ -175,8 +203,8 @@ fn at_own(
     octets: &[u8],
     out: &mut [u8],
 ) -> Answered
-    requires { ⌜ Ready (stationOf (now words) (now sums) (now spread)) car (now out) ⌝ }
-    ensures { λ r. ⌜ Takes car (forRecord (ownMessageOf message (groupsOf (readRules (now (octets .entry)))))) (now (words .entry)) (now (sums .entry)) (now (spread .entry)) (now (out .entry)) (now (out .exit)) (now (words .exit)) (now (sums .exit)) (now (spread .exit)) r ⌝ }
+    requires { ⌜ Ready (stationOf (now words) (now sums) (now spread)) car (now out) × OctetRequest (editionIn (now words)) (forRecord (ownMessageOf message (besideOf (readRules (editionIn (now words)) (now octets))))) ⌝ }
+    ensures { λ r. ⌜ Takes car (forRecord (ownMessageOf message (besideOf (readRules (editionIn (now (words .entry))) (now (octets .entry)))))) (now (words .entry)) (now (sums .entry)) (now (spread .entry)) (now (out .entry)) (now (out .exit)) (now (words .exit)) (now (sums .exit)) (now (spread .exit)) r ⌝ }
 {
     let state = words::state_of(words);
     let State::Matching(_) = state else {
@@ -186,8 +214,9 @@ fn at_own(
     let Found::Own(i) = found else {
         return answers::refused(Refusal::NoRecord);
     };
+    let edition = words::edition_of(words);
     let r = words::record_at(words, sums, spread, i);
-    let kept = own_record::at_record(r, message, octets);
+    let kept = own_record::at_record(edition, r, message, octets);
     settle(words, sums, spread, i, car, kept, out)
 }
 

@@ -24,15 +24,16 @@ ghost use Prim.Native.Nat.{ℕ};
 ghost use lib.ListN.{length};
 ghost use Rattle.rules.specs.Calls as calls;
 ghost use Rattle.rules.specs.Constants.{leastOutput};
+ghost use Rattle.rules.specs.Numbers.{editionOf};
 ghost use Rattle.rules.specs.Rules.{query};
 ghost use Rattle.words.specs.Words.{stateOf, recordsOf, heldCount, stationOf, wordCount, sumCount, spreadCount};
 ghost use Rattle.words.specs.Written.{stateNumber};
 ghost use Rattle.words.specs.Wiped.{Wiped};
 ghost use Rattle.lahzavar.specs.Answers.{version, Tells};
-ghost use Rattle.lahzavar.specs.Lent.{Lent, PilotLent, Configures};
+ghost use Rattle.lahzavar.specs.Lent.{Lent, PilotLent, ownAddress, Configures};
 
-// The version 0.6.0: 65536 times the major number, 256 times the minor, and the patch.
-const VERSION: u32 = 65536 * 0 + 256 * 6 + 0;
+// The version 0.7.0: 65536 times the major number, 256 times the minor, and the patch.
+const VERSION: u32 = 65536 * 0 + 256 * 7 + 0;
 
 // A call's answer: the refusal's number or 0; an indication (0 none, 1 no link, 2 link established); how many frames of how many octets in all.
 #[repr(C)]
@@ -50,7 +51,14 @@ pub struct Heard {
     pub sounds: u32,
 }
 
-// Configures a station; validation is required where the last number is 0. A bad configuration is refused, and its station answers 16 to everything.
+// Our address, or none where the number names no edition, so that such a configuration is refused.
+fn own_address(edition: u32, address: u64) -> u64
+    ensures { λ r. ⌜ r ≡ ownAddress edition address ⌝ }
+{
+    if edition <= 1 { address } else { 0 }
+}
+
+// Configures a station; validation is required where exempt is 0, the edition is 0 for ISO and 1 for SAE. A bad configuration is refused, and its station answers 16 to everything.
 #[no_mangle]
 pub extern "C" fn lahzavar_configure(
     words: &mut StationWords,
@@ -62,18 +70,20 @@ pub extern "C" fn lahzavar_configure(
     first: u64,
     last: u64,
     exempt: u32,
+    edition: u32,
 ) -> Answered
-    ensures { λ r. ⌜ Configures (record { 0 = address }) (record { 0 = modem }) (record { 0 = nid }) (record { 0 = first; 1 = last }) (not (eqb exempt 0)) (now (words .exit)) (now (sums .exit)) (now (spread .exit)) r ⌝ }
+    ensures { λ r. ⌜ Configures (record { 0 = ownAddress edition address }) (record { 0 = modem }) (record { 0 = nid }) (record { 0 = first; 1 = last }) (not (eqb exempt 0)) (editionOf edition) (now (words .exit)) (now (sums .exit)) (now (spread .exit)) r ⌝ }
 {
     storing::configure(
         words,
         sums,
         spread,
-        StationAddress(address),
+        StationAddress(own_address(edition, address)),
         ModemAddress(modem),
         Nid(nid),
         Nmk(first, last),
         exempt != 0,
+        rules::edition_of(answers::wide(edition)),
     )
 }
 

@@ -1,6 +1,7 @@
 // Storing what a call by value came to.
 use crate::Answered;
 use crate::answers;
+use messages::Edition;
 use messages::ModemAddress;
 use messages::Nid;
 use messages::Nmk;
@@ -43,10 +44,11 @@ pub(crate) fn configure(
     nid: Nid,
     nmk: Nmk,
     exempt: bool,
+    edition: Edition,
 ) -> Answered
-    ensures { λ r. ⌜ Configures address modem nid nmk exempt (now (words .exit)) (now (sums .exit)) (now (spread .exit)) r ⌝ }
+    ensures { λ r. ⌜ Configures address modem nid nmk exempt edition (now (words .exit)) (now (sums .exit)) (now (spread .exit)) r ⌝ }
 {
-    let made = rules::configure(address, modem, nid, nmk, exempt);
+    let made = rules::configure(address, modem, nid, nmk, exempt, edition);
     let station = made.station;
     let answer = made.answer;
     words::pack(station, words, sums, spread);

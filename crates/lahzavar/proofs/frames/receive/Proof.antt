@@ -1,7 +1,7 @@
 -- By what judging gives: a refusal, or the car's request.
 use Rattle.receiving.specs.declared.judge.Judged.the-variants.{Taken}
 use Rattle.receiving.specs.declared.judge.Request.{Request}
-use Rattle.lahzavar.proofs.FrameLaws.{comes-refused, frame-lent, frame-ready}
+use Rattle.lahzavar.proofs.FrameLaws.{comes-refused, frame-lent, frame-ready, frame-octets}
 use mathlib.Core.Path.{refl, ap, _∙_}
 use borrow.Author.Needs.{needs}
 use Rattle.lahzavar.proofs.frames.receive.Statement.{statement}
@@ -39,7 +39,9 @@ enum-known-request-2 c = search needs
 at-own-requires : tie.Need-at-own-requires
 at-own-requires c κs =
     let a = c .before .before .before .before .before .before .before .before .before .before .before .before .before .before .before .before .before .args in
-    frame-ready (a .words .now) (a .sums .now) (a .spread .now) (a .octets .now) (a .out .now) _ _ (c .before .before .before .before .before .before .before .before .before .before .judge .result) (c .before .before .before .before .before .before .before .before .before .before .before .before .before .config-of .ensures) (c .before .before .before .before .before .before .before .before .before .before .before .state-of .ensures) (c .before .before .before .before .before .before .before .before .before .before .judge .ensures) _ _ (c .before .before .before .before .before .before .before .before .judged2 .given .1)
+    let t = c .before .before .before .before .before .before .before .before .judged2 .given in
+    let q = t .1 ∙ ap (λ (q : Request). Taken (t .0 .0) q) (c .before .before .before .before .before .request2 .given .1) in
+    (frame-ready (a .words .now) (a .sums .now) (a .spread .now) (a .octets .now) (a .out .now) _ _ (c .before .before .before .before .before .before .before .before .before .before .judge .result) (c .before .before .before .before .before .before .before .before .before .before .before .before .before .config-of .ensures) (c .before .before .before .before .before .before .before .before .before .before .before .state-of .ensures) (c .before .before .before .before .before .before .before .before .before .before .judge .ensures) _ _ (t .1), frame-octets (a .words .now) (a .sums .now) (a .spread .now) (a .octets .now) (a .out .now) _ _ (c .before .before .before .before .before .before .before .before .before .before .judge .result) (c .before .before .before .before .before .before .before .before .before .before .before .before .before .config-of .ensures) (c .before .before .before .before .before .before .before .before .before .before .before .state-of .ensures) (c .before .before .before .before .before .before .before .before .before .before .judge .ensures) _ _ q (λ i. c .before .before .before .before .before .before .before .before .before .before .before .before .before .before .before .before .shared-slice-known .given i .fits))
 
 by-value-requires : tie.Need-by-value-requires
 by-value-requires c κs = search needs

@@ -7,7 +7,7 @@ use Rattle.rules.specs.Stations.{done}
 use Rattle.ends.specs.declared.Indication.the-variants.{Nothing}
 use Rattle.rules.specs.declared.Record.{Record}
 use Rattle.station.specs.Frames.{KeepsGood, settled}
-use Rattle.words.specs.Words.{stationOf}
+use Rattle.words.specs.Words.{editionIn, stationOf}
 use Rattle.lahzavar.proofs.FrameLaws.{comes-as, comes-refused, comes-silent}
 use lib.ListN.{set}
 use mathlib.Core.List.{[]}
@@ -30,8 +30,8 @@ owned-requires c κs = search needs
 
 put-record-requires : tie.Need-put-record-requires
 put-record-requires c κs =
-    let a = c .before .before .before .before .before .before .before .before .args in
-    subst GoodRecord (sym (c .owned .ensures)) (subst (λ (x : Effect). KeepsGood (a .car) (effectOf (a .kept .kept) x)) (c .before .before .before .before .enum-told .given .1) (c .before .before .before .before .before .before .before .before .pre .1))
+    let s = c .before .before .before .before .before .before .before .before in
+    subst (GoodRecord _) (sym (c .owned .ensures)) (subst (λ (x : Effect). KeepsGood (editionIn (s .args .words .now)) (s .args .car) (effectOf (s .args .kept .kept) x)) (c .before .before .before .before .enum-told .given .1) (s .pre .1) .0)
 
 answered-requires : tie.Need-answered-requires
 answered-requires c κs = search needs
@@ -41,8 +41,8 @@ enum-told-2 c = search needs
 
 report-requires : tie.Need-report-requires
 report-requires c κs =
-    let a = c .before .before .before .before .before .before .before .before .args in
-    (c .before .before .before .before .before .before .before .before .pre .0, subst (λ (x : Effect). KeepsGood (a .car) (effectOf (a .kept .kept) x)) (c .before .before .before .before .enum-told2 .given .1) (c .before .before .before .before .before .before .before .before .pre .1))
+    let s = c .before .before .before .before .before .before .before .before in
+    (s .pre .0, subst (λ (x : Effect). KeepsGood (editionIn (s .args .words .now)) (s .args .car) (effectOf (s .args .kept .kept) x)) (c .before .before .before .before .enum-told2 .given .1) (s .pre .1))
 
 returns : tie.Need-returns
 returns c =
