@@ -9,7 +9,7 @@ use Rattle.messages.specs.Reading.{Checked, no, yes, check}
 use Rattle.ends.specs.Outcomes.{andThen}
 use Rattle.log.specs.Meaning.{Item, Log, headOf, firstIn, lengthIn}
 use Rattle.log.specs.Layout.{mostOctets, headOctets, eventsStart, logOctets}
-use Rattle.log.specs.Reading.{Rules, countIn, replyCountIn, eventsIn, repliesIn, totalIn, endsAt, partRules, isTimed, isSized, isPilot, eventRules, isIndicated, isFramed, replyRules, itemRules, fieldRules, logIn, readRules}
+use Rattle.log.specs.Reading.{Rules, countIn, replyCountIn, eventsIn, repliesIn, totalIn, endsAt, partRules, isSet, isTimed, isSized, isPilot, eventRules, isIndicated, isFramed, replyRules, itemRules, fieldRules, logIn, readRules}
 use Rattle.log.specs.Writing.{Given, logOf, totalOf, isNarrow, isWhole, givenRules, meaningRules, writeRules}
 use Rattle.log.specs.Claims.{isOneOf, ReadingCauses, WritingCauses}
 
@@ -70,7 +70,7 @@ on-parts s =
 on-fields : (l : Log) → OnNo Read (fieldRules l)
 unfolding fieldRules
 on-fields l =
-    on-check Read (leb (l .configuration .exemption) 1) 8 _ refl
+    on-check Read (isSet (l .configuration)) 8 _ refl
     (on-then Read (itemRules eventRules (l .events)) (λ (_ : Unit {0}). andThen (itemRules replyRules (l .replies)) (λ (_ : Unit {0}). yes l)) (on-items Read eventRules (on-event Read refl refl refl refl) (l .events))
     (λ u. on-then Read (itemRules replyRules (l .replies)) (λ (_ : Unit {0}). yes l) (on-items Read replyRules (on-reply Read refl refl) (l .replies)) (λ v. tt)))
 
@@ -89,7 +89,7 @@ on-meaning g =
     on-check Write (leb (totalOf g) mostOctets) 1 _ refl
     (on-check Write (eqb (length (g .replies)) (length (g .events))) 3 _ refl
     (on-check Write (isNarrow (g .configuration)) 7 _ refl
-    (on-check Write (leb (g .configuration .exemption) 1) 8 _ refl
+    (on-check Write (isSet (g .configuration)) 8 _ refl
     (on-then Write (givenRules eventRules 11 (g .events) (g .eventOctets)) (λ (_ : Unit {0}). andThen (givenRules replyRules 14 (g .replies) (g .replyOctets)) (λ (_ : Unit {0}). yes (logOf g))) (on-given Write eventRules (on-event Write refl refl refl refl) 11 refl (g .events) (g .eventOctets))
     (λ u. on-then Write (givenRules replyRules 14 (g .replies) (g .replyOctets)) (λ (_ : Unit {0}). yes (logOf g)) (on-given Write replyRules (on-reply Write refl refl) 14 refl (g .replies) (g .replyOctets)) (λ v. tt))))))
 

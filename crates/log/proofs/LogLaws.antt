@@ -17,7 +17,7 @@ use Rattle.log.specs.Meaning.{Log}
 use Rattle.log.specs.declared.Configuration.{Configuration}
 use Rattle.log.specs.Layout as layout
 use Rattle.log.specs.Layout.{mostOctets, headOctets, configurationOctets, itemOctets, eventsStart, numbers, valuesOf, listOctets, headNumbers, logOctets}
-use Rattle.log.specs.Reading.{countIn, replyCountIn, eventsIn, repliesIn, totalIn, endsAt, partRules, eventRules, replyRules, itemRules, fieldRules}
+use Rattle.log.specs.Reading.{countIn, replyCountIn, eventsIn, repliesIn, totalIn, endsAt, partRules, isSet, eventRules, replyRules, itemRules, fieldRules}
 use Rattle.log.specs.Writing.{Given, logOf, sizeOf, totalOf, isNarrow, givenRules, meaningRules}
 use Rattle.log.proofs.GivenLaws.{followed, items-size, told-octets}
 use Rattle.log.proofs.NumberLaws.{length-numbers}
@@ -65,22 +65,22 @@ parts-passed s p =
 
 -- every field is right
 pub record Fields (l : Log) : Type 0 where
-  pub exemption : leb (l .configuration .exemption) 1 ≡ true
+  pub settings : isSet (l .configuration) ≡ true
   pub events : itemRules eventRules (l .events) ≡ yes tt
   pub replies : itemRules replyRules (l .replies) ≡ yes tt
 
 pub fields : (l m : Log) → fieldRules l ≡ yes m → Fields l × (l ≡ m)
 unfolding fieldRules
 fields l m e =
-    let one = passed (leb (l .configuration .exemption) 1) 8 _ m e in
+    let one = passed (isSet (l .configuration)) 8 _ m e in
     let two = followed (itemRules eventRules (l .events)) _ m (one .1) in
     let three = followed (itemRules replyRules (l .replies)) (λ (_ : Unit {0}). yes l) m (two .second) in
-    (record { exemption = one .0; events = two .first; replies = three .first }, yes-same l m (three .second))
+    (record { settings = one .0; events = two .first; replies = three .first }, yes-same l m (three .second))
 
 pub fields-passed : (l : Log) → Fields l → fieldRules l ≡ yes l
 unfolding fieldRules
 fields-passed l p =
-    pass (leb (l .configuration .exemption) 1) 8 _ (p .exemption)
+    pass (isSet (l .configuration)) 8 _ (p .settings)
     ∙ ap (λ (w : Checked (Unit {0})). andThen w (λ (_ : Unit {0}). andThen (itemRules replyRules (l .replies)) (λ (_ : Unit {0}). yes l))) (p .events)
     ∙ ap (λ (w : Checked (Unit {0})). andThen w (λ (_ : Unit {0}). yes l)) (p .replies)
 
@@ -89,7 +89,7 @@ pub record Meant (g : Given) : Type 0 where
   pub short : totalOf g ≤ mostOctets
   pub counts : length (g .replies) ≡ length (g .events)
   pub narrow : isNarrow (g .configuration) ≡ true
-  pub exemption : leb (g .configuration .exemption) 1 ≡ true
+  pub settings : isSet (g .configuration) ≡ true
   pub events : givenRules eventRules 11 (g .events) (g .eventOctets) ≡ yes tt
   pub replies : givenRules replyRules 14 (g .replies) (g .replyOctets) ≡ yes tt
 
@@ -99,14 +99,14 @@ meant g l e =
     let one = passed (leb (totalOf g) mostOctets) 1 _ l e in
     let two = passed (eqb (length (g .replies)) (length (g .events))) 3 _ l (one .1) in
     let three = passed (isNarrow (g .configuration)) 7 _ l (two .1) in
-    let four = passed (leb (g .configuration .exemption) 1) 8 _ l (three .1) in
+    let four = passed (isSet (g .configuration)) 8 _ l (three .1) in
     let five = followed (givenRules eventRules 11 (g .events) (g .eventOctets)) _ l (four .1) in
     let six = followed (givenRules replyRules 14 (g .replies) (g .replyOctets)) (λ (_ : Unit {0}). yes (logOf g)) l (five .second) in (
       record {
         short = leb-true (totalOf g) mostOctets (one .0);
         counts = eqb-true (length (g .replies)) (length (g .events)) (two .0);
         narrow = three .0;
-        exemption = four .0;
+        settings = four .0;
         events = five .first;
         replies = six .first;
       },
@@ -119,7 +119,7 @@ meant-passed g p =
     pass (leb (totalOf g) mostOctets) 1 _ (le-leb (totalOf g) mostOctets (p .short))
     ∙ pass (eqb (length (g .replies)) (length (g .events))) 3 _ (eq-eqb (length (g .replies)) (length (g .events)) (p .counts))
     ∙ pass (isNarrow (g .configuration)) 7 _ (p .narrow)
-    ∙ pass (leb (g .configuration .exemption) 1) 8 _ (p .exemption)
+    ∙ pass (isSet (g .configuration)) 8 _ (p .settings)
     ∙ ap (λ (w : Checked (Unit {0})). andThen w (λ (_ : Unit {0}). andThen (givenRules replyRules 14 (g .replies) (g .replyOctets)) (λ (_ : Unit {0}). yes (logOf g)))) (p .events)
     ∙ ap (λ (w : Checked (Unit {0})). andThen w (λ (_ : Unit {0}). yes (logOf g))) (p .replies)
 

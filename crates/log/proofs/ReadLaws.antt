@@ -14,7 +14,7 @@ use Rattle.ends.proofs.AnswerLaws.{no-same}
 use Rattle.log.specs.declared.Configuration.{Configuration}
 use Rattle.log.specs.Meaning.{Log}
 use Rattle.log.specs.Layout.{mostOctets, headOctets, eventsStart}
-use Rattle.log.specs.Reading.{countIn, replyCountIn, eventsIn, repliesIn, totalIn, endsAt, partRules, eventRules, replyRules, itemRules, fieldRules, logIn, readRules}
+use Rattle.log.specs.Reading.{countIn, replyCountIn, eventsIn, repliesIn, totalIn, endsAt, partRules, isSet, eventRules, replyRules, itemRules, fieldRules, logIn, readRules}
 use Rattle.log.specs.Answers.{placesIn, placesOf}
 use Rattle.log.specs.Private.{told, Listed}
 use Rattle.log.proofs.LogLaws.{parts}
@@ -96,18 +96,20 @@ module _ (s : List ℕ) (p : partRules s ≡ yes tt) {n : ℕ} (en : n ≡ count
   pub replies-listed : {r : ℕ} → r ≡ repliesIn s → Listed s n r
   replies-listed {r} er = record { short = parts s p .short; end = length s; ends = ap₂ (λ (k a : ℕ). endsAt s k a (length s)) en er ∙ parts s p .ends }
 
-module _ (l : Log) {c : Configuration} (ec : c ≡ l .configuration) where
+module _ (l : Log) {c : Configuration} (ec : c ≡ l .configuration) {b : Bool} (eb : b ≡ isSet c) where
   abbrev behind8 : Checked Log
   behind8 = andThen (itemRules eventRules (l .events)) (λ (_ : Unit {0}). andThen (itemRules replyRules (l .replies)) (λ (_ : Unit {0}). yes l))
 
-  pub field-setting : not (leb (c .exemption) 1) ≡ true → no 8 ≡ told (fieldRules l)
+  from8 : check b 8 behind8 ≡ fieldRules l
   unfolding fieldRules
-  field-setting h = ap told (sym (fail (leb (c .exemption) 1) 8 behind8 (not-true _ h)) ∙ ap (λ (d : Configuration). check (leb (d .exemption) 1) 8 behind8) ec)
+  from8 = ap (λ (a : Bool). check a 8 behind8) (eb ∙ ap isSet ec)
 
-  module _ (p : not (leb (c .exemption) 1) ≡ false) where
+  pub field-setting : not b ≡ true → no 8 ≡ told (fieldRules l)
+  field-setting h = ap told (sym (fail b 8 behind8 (not-true _ h)) ∙ from8)
+
+  module _ (p : not b ≡ false) where
     from-events : behind8 ≡ fieldRules l
-    unfolding fieldRules
-    from-events = sym (pass (leb (c .exemption) 1) 8 behind8 (not-false _ p)) ∙ ap (λ (d : Configuration). check (leb (d .exemption) 1) 8 behind8) ec
+    from-events = sym (pass b 8 behind8 (not-false _ p)) ∙ from8
 
     pub field-event : (n : ℕ) → no n ≡ itemRules eventRules (l .events) → no n ≡ told (fieldRules l)
     field-event n e = ap told (ap (λ (w : Checked (Unit {0})). andThen w (λ (_ : Unit {0}). andThen (itemRules replyRules (l .replies)) (λ (_ : Unit {0}). yes l))) e ∙ from-events)

@@ -21,7 +21,7 @@ use Rattle.log.specs.declared.Configuration.{Configuration}
 use Rattle.log.specs.Meaning.{Item, Log, headOf}
 use Rattle.log.specs.Layout as layout
 use Rattle.log.specs.Layout.{headOctets, configurationOctets, eventsStart, numbers, numbersAt, valuesOf, configurationOf, listOctets, itemsAt, repliesStart, headNumbers, logOctets}
-use Rattle.log.specs.Reading.{countIn, replyCountIn, eventsIn, repliesIn, totalIn, endsAt, eventRules, replyRules, logIn, partRules, fieldRules, readRules}
+use Rattle.log.specs.Reading.{countIn, replyCountIn, eventsIn, repliesIn, totalIn, endsAt, isSetting, eventRules, replyRules, logIn, partRules, fieldRules, readRules}
 use Rattle.log.specs.Writing.{Given, logOf, givenBy, totalOf, isNarrow, meaningRules, writeRules}
 use Rattle.log.specs.Claims.{Typed, ReadsWritten, WritesRead, OneLayout}
 use Rattle.log.proofs.NumberLaws.{numbers-read, numbers-written, part-joined, part-length}
@@ -69,9 +69,9 @@ module _ (s : List ℕ) (o : Octets s) (p : Parts s) where
 
   configuration-same : encode layout.fields (valuesOf (q .configuration)) ≡ part s headOctets configurationOctets
   configuration-same =
-      let right : holds headOctets layout.fields s ≡ true = ap₂ _&&_ (lt-ltb _ (256 ^ 7) (low-lt s _ 7 o)) (ap₂ _&&_ (lt-ltb _ (256 ^ 4) (low-lt s _ 4 o)) refl) in
+      let right : holds headOctets layout.fields s ≡ true = ap₂ _&&_ (lt-ltb _ (256 ^ 7) (low-lt s _ 7 o)) (ap₂ _&&_ (lt-ltb _ (256 ^ 4) (low-lt s _ 4 o)) (ap₂ _&&_ (lt-ltb _ (256 ^ 4) (low-lt s _ 4 o)) refl)) in
       encode-read s o layout.fields headOctets (omega (arith, events-stand .ends, replies-stand .ends)) right
-      ∙ zeroed-part s layout.fields headOctets ((λ k. refl), ((λ k. refl), ((λ k. refl), ((λ k. refl), ((λ k. refl), ((λ k. refl), tt))))))
+      ∙ zeroed-part s layout.fields headOctets ((λ k. refl), ((λ k. refl), ((λ k. refl), ((λ k. refl), ((λ k. refl), ((λ k. refl), ((λ k. refl), tt)))))))
 
   octets-same : logOctets q ≡ s
   unfolding logOctets
@@ -103,7 +103,7 @@ module _ (s : List ℕ) (o : Octets s) (p : Parts s) where
     short = omega (arith, total-same, p .short);
     counts = heads-count (q .replies) ∙ length-items s (countIn s) (repliesIn s) ∙ sym (heads-count (q .events) ∙ length-items s (countIn s) eventsStart);
     narrow = narrow-read;
-    exemption = f .exemption;
+    settings = f .settings;
     events = given-back eventRules 11 (q .events) ∙ f .events;
     replies = given-back replyRules 14 (q .replies) ∙ f .replies;
   }
@@ -160,9 +160,10 @@ module _ (g : Given) (typed : Typed g) (m : Meant g) where
       let c : Configuration = g .configuration in
       let both = and-left (ltb (c .address .0) (2 ^ 48) && ltb (c .modem .0) (2 ^ 48)) (ltb (c .nid .0) (2 ^ 56)) (m .narrow) in
       let nid = ltb-true (c .nid .0) (2 ^ 56) (and-right (ltb (c .address .0) (2 ^ 48) && ltb (c .modem .0) (2 ^ 48)) (ltb (c .nid .0) (2 ^ 56)) (m .narrow)) in
-      let flag = leb-true (c .exemption) 1 (m .exemption) in (
+      let exemption = leb-true (c .exemption) 1 (and-left (isSetting (c .exemption)) (isSetting (c .edition)) (m .settings)) in
+      let edition = leb-true (c .edition) 1 (and-right (isSetting (c .exemption)) (isSetting (c .edition)) (m .settings)) in (
         ltb-true (c .address .0) (2 ^ 48) (and-left (ltb (c .address .0) (2 ^ 48)) (ltb (c .modem .0) (2 ^ 48)) both),
-        (ltb-true (c .modem .0) (2 ^ 48) (and-right (ltb (c .address .0) (2 ^ 48)) (ltb (c .modem .0) (2 ^ 48)) both), ((nid, nid), (typed .high, (typed .low, ((omega arith, omega arith), tt))))),
+        (ltb-true (c .modem .0) (2 ^ 48) (and-right (ltb (c .address .0) (2 ^ 48)) (ltb (c .modem .0) (2 ^ 48)) both), ((nid, nid), (typed .high, (typed .low, ((omega arith, omega arith), ((omega arith, omega arith), tt)))))),
       )
 
   same-count : length (l .replies) ≡ length (l .events)
@@ -245,7 +246,7 @@ module _ (g : Given) (typed : Typed g) (m : Meant g) where
   reads-octets =
       ap (λ (w : Checked (Unit {0})). andThen w (λ (_ : Unit {0}). fieldRules (logIn written))) (parts-passed written parts-stand)
       ∙ ap fieldRules log-stands
-      ∙ fields-passed l (record { exemption = m .exemption; events = have-events .rules; replies = have-replies .rules })
+      ∙ fields-passed l (record { settings = m .settings; events = have-events .rules; replies = have-replies .rules })
 
 pub reads-written : ReadsWritten
 unfolding writeRules

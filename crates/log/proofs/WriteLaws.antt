@@ -18,7 +18,7 @@ use Rattle.ends.proofs.AnswerLaws.{no-same}
 use Rattle.ends.proofs.Logic.{split}
 use Rattle.log.specs.Meaning.{Log}
 use Rattle.log.specs.Layout.{mostOctets, logOctets}
-use Rattle.log.specs.Reading.{eventRules, replyRules}
+use Rattle.log.specs.Reading.{isSet, eventRules, replyRules}
 use Rattle.log.specs.Writing.{Given, logOf, totalOf, isNarrow, givenRules, meaningRules, writeRules}
 use Rattle.log.specs.Private.{told, tooLong}
 use Rattle.log.proofs.LogLaws.{Meant, meant, meant-passed, length-log}
@@ -37,7 +37,7 @@ module _ (g : Given) where
   left9 = andThen events (λ (_ : Unit {0}). andThen replies (λ (_ : Unit {0}). yes (logOf g)))
 
   abbrev left8 : Checked Log
-  left8 = check (leb (g .configuration .exemption) 1) 8 left9
+  left8 = check (isSet (g .configuration)) 8 left9
 
   abbrev left7 : Checked Log
   left7 = check (isNarrow (g .configuration)) 7 left8
@@ -74,16 +74,16 @@ module _ (g : Given) where
         pub meaning-wide : not b ≡ true → no 7 ≡ told (meaningRules g)
         meaning-wide h = ap told (sym (fail b 7 left8 (not-true _ h)) ∙ from7)
 
-        module _ (p7 : not b ≡ false) where
-          from8 : left8 ≡ meaningRules g
-          from8 = sym (pass b 7 left8 (not-false _ p7)) ∙ from7
+        module _ (p7 : not b ≡ false) {c : Bool} (ec : c ≡ isSet (g .configuration)) where
+          from8 : check c 8 left9 ≡ meaningRules g
+          from8 = ap (λ (a : Bool). check a 8 left9) ec ∙ sym (pass b 7 left8 (not-false _ p7)) ∙ from7
 
-          pub meaning-setting : not (leb (g .configuration .exemption) 1) ≡ true → no 8 ≡ told (meaningRules g)
-          meaning-setting h = ap told (sym (fail (leb (g .configuration .exemption) 1) 8 left9 (not-true _ h)) ∙ from8)
+          pub meaning-setting : not c ≡ true → no 8 ≡ told (meaningRules g)
+          meaning-setting h = ap told (sym (fail c 8 left9 (not-true _ h)) ∙ from8)
 
-          module _ (p8 : not (leb (g .configuration .exemption) 1) ≡ false) where
+          module _ (p8 : not c ≡ false) where
             from9 : left9 ≡ meaningRules g
-            from9 = sym (pass (leb (g .configuration .exemption) 1) 8 left9 (not-false _ p8)) ∙ from8
+            from9 = sym (pass c 8 left9 (not-false _ p8)) ∙ from8
 
             pub meaning-event : (k : ℕ) → no k ≡ events → no k ≡ told (meaningRules g)
             meaning-event k e = ap told (ap (λ (w : Checked (Unit {0})). andThen w (λ (_ : Unit {0}). andThen replies (λ (_ : Unit {0}). yes (logOf g)))) e ∙ from9)

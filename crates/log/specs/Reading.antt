@@ -7,6 +7,7 @@ use lib.ListN.{length, getD}
 use Rattle.octets.specs.Octets.{lowValue}
 use Rattle.messages.specs.Reading.{Checked, yes, check}
 use Rattle.ends.specs.Outcomes.{andThen}
+use Rattle.log.specs.declared.Configuration.{Configuration}
 use Rattle.log.specs.Meaning.{Item, Log, headOf, firstIn, secondIn, lengthIn}
 use Rattle.log.specs.Layout.{mostOctets, headOctets, eventsStart, configurationIn, behind, itemsAt}
 
@@ -50,6 +51,14 @@ partRules s =
     (check (eqb (totalIn s) (length s) && endsAt s (countIn s) (repliesIn s) (length s)) 6 (yes tt))))))
 
 -- ---- causes 8 to 14: the fields in order
+
+-- a setting is 1 or 0
+abbrev pub isSetting : ℕ → Bool
+isSetting n = leb n 1
+
+-- each setting of a configuration is 1 or 0
+abbrev pub isSet : Configuration → Bool
+isSet c = isSetting (c .exemption) && isSetting (c .edition)
 
 -- the kind of a frame, which has any octets
 abbrev pub frameKind : ℕ
@@ -108,10 +117,10 @@ unfoldable pub itemRules : Rules → List Item → Checked (Unit {0})
 itemRules f [] = yes tt
 itemRules f (x ∷ xs) = andThen (f (headOf x) true (getD (x .octets) 0 0)) (λ (_ : Unit {0}). itemRules f xs)
 
--- the exemption, then the events, then the replies
+-- the settings, then the events, then the replies
 unfoldable pub fieldRules : Log → Checked Log
 fieldRules l =
-    check (leb (l .configuration .exemption) 1) 8
+    check (isSet (l .configuration)) 8
     (andThen (itemRules eventRules (l .events)) (λ (_ : Unit {0}).
     andThen (itemRules replyRules (l .replies)) (λ (_ : Unit {0}). yes l)))
 

@@ -10,7 +10,7 @@ use Rattle.ends.specs.Outcomes.{andThen}
 use Rattle.log.specs.declared.Configuration.{Configuration}
 use Rattle.log.specs.Meaning.{Item, Log, headOf, lengthIn, itemOf}
 use Rattle.log.specs.Layout.{mostOctets, itemOctets, eventsStart, logOctets}
-use Rattle.log.specs.Reading.{Rules, eventRules, replyRules}
+use Rattle.log.specs.Reading.{isSet, Rules, eventRules, replyRules}
 
 -- heads of events and of replies, each three numbers, and the octets of all events and of all replies back to back
 pub record Given : Type 0 where
@@ -70,7 +70,7 @@ meaningRules g =
     check (leb (totalOf g) mostOctets) 1
     (check (eqb (length (g .replies)) (length (g .events))) 3
     (check (isNarrow (g .configuration)) 7
-    (check (leb (g .configuration .exemption) 1) 8
+    (check (isSet (g .configuration)) 8
     (andThen (givenRules eventRules 11 (g .events) (g .eventOctets)) (λ (_ : Unit {0}).
     andThen (givenRules replyRules 14 (g .replies) (g .replyOctets)) (λ (_ : Unit {0}). yes (logOf g)))))))
 

@@ -1,16 +1,25 @@
-// Judging an event or a reply by its head, by whether its octets are all there, and by the first of them.
+// Judging a configuration by its settings, and an event or a reply by its head, by whether its octets are all there, and by the
+// first of them.
 use crate::Cause;
+use crate::Configuration;
 use crate::Head;
 ghost use mathlib.Core.Path.{_≡_};
 ghost use lib.ListN.{getD};
 ghost use Rattle.octets.specs.Octets.{part};
-ghost use Rattle.log.specs.Reading.{ownLength, eventRules, replyRules};
+ghost use Rattle.log.specs.Reading.{isSet, ownLength, eventRules, replyRules};
 ghost use Rattle.log.specs.Private.{judgedOf, rulesOf};
 
 // The answer to what is judged.
 pub(crate) enum Judged {
     Fine,
     Refused(Cause),
+}
+
+// Whether each setting of a configuration is 1 or 0.
+pub(crate) fn is_set(configuration: Configuration) -> bool
+    ensures { λ r. ⌜ r ≡ isSet configuration ⌝ }
+{
+    (configuration.exemption <= 1) & (configuration.edition <= 1)
 }
 
 // The kinds of events that have any octets, a reading, or both a reading and an octet.

@@ -24,8 +24,8 @@ pub const MOST_OCTETS: usize = 65536;
 // How many octets the head takes: five numbers.
 pub const HEAD_OCTETS: usize = 20;
 
-// How many octets the configuration takes: two addresses, NID, NMK and the exemption.
-pub const CONFIGURATION_OCTETS: usize = 39;
+// How many octets the configuration takes: two addresses, NID, NMK, the exemption and the edition.
+pub const CONFIGURATION_OCTETS: usize = 43;
 
 // How many octets stand in front of an event's or a reply's own: three numbers.
 pub const ITEM_OCTETS: usize = 12;
@@ -36,13 +36,15 @@ pub const EVENTS_START: usize = HEAD_OCTETS + CONFIGURATION_OCTETS;
 // An event's kind, reading and length; or a reply's refusal or 0, indication and length.
 pub type Head = [u32; 3];
 
-// A configuration as it was given; the exemption is 1 where validation is not required, else 0.
+// A configuration as it was given; the exemption is 1 where validation is not required, else 0, and the edition 0 for ISO, 1 for
+// SAE.
 pub struct Configuration {
     pub address: StationAddress,
     pub modem: ModemAddress,
     pub nid: Nid,
     pub nmk: Nmk,
     pub exemption: u32,
+    pub edition: u32,
 }
 
 // Why a log is refused, in the order of the numbers from 1 on.
@@ -120,6 +122,7 @@ pub fn configuration_in(log: &[u8]) -> Configuration
         nid: Nid(octets::low_number_at(log, HEAD_OCTETS + 12, 7)),
         nmk: nmk,
         exemption: reader::number_in(log, HEAD_OCTETS + 35) as u32,
+        edition: reader::number_in(log, HEAD_OCTETS + 39) as u32,
     }
 }
 

@@ -115,7 +115,7 @@ pub(crate) fn fields(log: &[u8]) -> Judged
     ensures { λ r. ⌜ judgedOf r ≡ told (fieldRules (logIn (now (log .entry)))) ⌝ }
 {
     let configuration = configuration_in(log);
-    if !(configuration.exemption <= 1) {
+    if !judging::is_set(configuration) {
         return Judged::Refused(Cause::BadSetting);
     }
     let count = number_in(log, 0);

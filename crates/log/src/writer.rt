@@ -161,7 +161,7 @@ pub(crate) fn judge(
     if !is_narrow(configuration) {
         return Judged::Refused(Cause::TooWide);
     }
-    if !(configuration.exemption <= 1) {
+    if !judging::is_set(configuration) {
         return Judged::Refused(Cause::BadSetting);
     }
     let judged = items(Which::Events, events, octets);
@@ -227,12 +227,14 @@ fn put_configuration(out: &mut [u8], configuration: Configuration)
     let nid = configuration.nid;
     let nmk = configuration.nmk;
     let exemption = configuration.exemption;
+    let edition = configuration.edition;
     octets::put_number(out, HEAD_OCTETS, 6, address.0);
     octets::put_number(out, HEAD_OCTETS + 6, 6, modem.0);
     octets::put_low_number(out, HEAD_OCTETS + 12, 7, nid.0);
     octets::put_number(out, HEAD_OCTETS + 19, 8, nmk.0);
     octets::put_number(out, HEAD_OCTETS + 27, 8, nmk.1);
     put_number(out, HEAD_OCTETS + 35, wide(exemption));
+    put_number(out, HEAD_OCTETS + 39, wide(edition));
 }
 
 // Writes the log.

@@ -39,9 +39,18 @@ number-in-requires c κs = search needs
 cast-t13 : tie.Need-cast-t13
 cast-t13 c = search needs
 
+add-number-in-2 : tie.Need-add-number-in-2
+add-number-in-2 c = search needs
+
+number-in-requires-2 : tie.Need-number-in-requires-2
+number-in-requires-2 c κs = search needs
+
+cast-t16 : tie.Need-cast-t16
+cast-t16 c = search needs
+
 returns : tie.Need-returns
 returns c =
-    rw (c .before .before .before .number-at3 .ensures, c .before .before .number-at4 .ensures, c .before .low-number-at .ensures, c .before .before .before .before .before .number-at .ensures, c .before .before .before .before .number-at2 .ensures, c .number-in .ensures .0)
+    rw (c .before .before .before .before .number-at3 .ensures, c .before .before .before .number-at4 .ensures, c .before .before .low-number-at .ensures, c .before .before .before .before .before .before .number-at .ensures, c .before .before .before .before .before .number-at2 .ensures, c .before .number-in .ensures .0, c .number-in2 .ensures .0)
 
 pub configuration-in-spec : {M : Type 1} → statement M
 configuration-in-spec =
@@ -59,4 +68,7 @@ configuration-in-spec =
     add-number-in
     number-in-requires
     cast-t13
+    add-number-in-2
+    number-in-requires-2
+    cast-t16
     returns)

@@ -1,4 +1,4 @@
--- The exemption; then the events; then the replies.
+-- The settings; then the events; then the replies.
 use mathlib.Core.Path.{sym, ap, ap₂, _∙_}
 use Prim.Native.Nat.{ℕ}
 use Rattle.log.specs.Layout.{eventsStart, itemsAt}
@@ -13,8 +13,11 @@ use Rattle.log.proofs.reader.fields.Tie as tie
 configuration-in-requires : tie.Need-configuration-in-requires
 configuration-in-requires c κs = search needs
 
+is-set-requires : tie.Need-is-set-requires
+is-set-requires c κs = search needs
+
 returns : tie.Need-returns
-returns c = field-setting (logIn (c .before .before .before .before .args .log .now)) (c .before .before .configuration-in .ensures) (c .if1 .taken)
+returns c = field-setting (logIn (c .before .before .before .before .args .log .now)) (c .before .before .configuration-in .ensures) (c .before .is-set .ensures) (c .if1 .taken)
 
 number-in-requires : tie.Need-number-in-requires
 number-in-requires c κs = search needs
@@ -45,14 +48,14 @@ returns-2 c =
     let events = sym (ap judgedOf (c .before .before .enum-told .given .1)) ∙ c .before .before .before .before .items .ensures ∙ ap (λ (k : ℕ). itemRules eventRules (itemsAt s k eventsStart)) n in
     c .items2 .ensures
     ∙ ap₂ (λ (k i : ℕ). itemRules replyRules (itemsAt s k i)) n (c .before .number-in2 .ensures .0)
-    ∙ field-reply (logIn s) (c .before .before .before .before .before .before .before .before .configuration-in .ensures) (c .before .before .before .before .before .before .if1 .left) events
+    ∙ field-reply (logIn s) (c .before .before .before .before .before .before .before .before .configuration-in .ensures) (c .before .before .before .before .before .before .before .is-set .ensures) (c .before .before .before .before .before .before .if1 .left) events
 
 returns-3 : tie.Need-returns-3
 returns-3 c =
     let s = c .before .before .before .before .before .before .before .before .before .args .log .now in
     let n = c .before .before .before .before .number-in .ensures .0 in
     let h = c .before .events .given in
-    field-event (logIn s) (c .before .before .before .before .before .before .before .configuration-in .ensures) (c .before .before .before .before .before .if1 .left) (numberOf (h .0 .0))
+    field-event (logIn s) (c .before .before .before .before .before .before .before .configuration-in .ensures) (c .before .before .before .before .before .before .is-set .ensures) (c .before .before .before .before .before .if1 .left) (numberOf (h .0 .0))
     (sym (ap judgedOf (h .1)) ∙ c .before .before .before .items .ensures ∙ ap (λ (k : ℕ). itemRules eventRules (itemsAt s k eventsStart)) n)
 
 pub fields-spec : {M : Type 1} → statement M
@@ -60,6 +63,7 @@ fields-spec =
     tie.close
     (tie.spec
     configuration-in-requires
+    is-set-requires
     returns
     number-in-requires
     items-requires

@@ -29,10 +29,13 @@ returns-3 c =
     let a = c .before .before .before .before .before .before .before .args in
     meaning-wide (given (a .configuration) (a .events .now) (a .octets .now) (a .replies .now) (a .frames .now)) (c .before .before .before .before .total-of .ensures) (c .before .before .before .if1 .left) (c .before .before .if2 .left) (c .before .is-narrow .ensures) (c .if3 .taken)
 
+is-set-requires : tie.Need-is-set-requires
+is-set-requires c κs = search needs
+
 returns-4 : tie.Need-returns-4
 returns-4 c =
     let a = c .before .before .before .before .before .before .before .before .before .args in
-    meaning-setting (given (a .configuration) (a .events .now) (a .octets .now) (a .replies .now) (a .frames .now)) (c .before .before .before .before .before .before .total-of .ensures) (c .before .before .before .before .before .if1 .left) (c .before .before .before .before .if2 .left) (c .before .before .before .is-narrow .ensures) (c .before .before .if3 .left) (c .if4 .taken)
+    meaning-setting (given (a .configuration) (a .events .now) (a .octets .now) (a .replies .now) (a .frames .now)) (c .before .before .before .before .before .before .total-of .ensures) (c .before .before .before .before .before .if1 .left) (c .before .before .before .before .if2 .left) (c .before .before .before .is-narrow .ensures) (c .before .before .if3 .left) (c .before .is-set .ensures) (c .if4 .taken)
 
 items-requires : tie.Need-items-requires
 items-requires c κs = search needs
@@ -50,13 +53,13 @@ returns-5 : tie.Need-returns-5
 returns-5 c =
     let a = c .before .before .before .before .before .before .before .before .before .before .before .before .before .args in
     c .items2 .ensures
-    ∙ meaning-reply (given (a .configuration) (a .events .now) (a .octets .now) (a .replies .now) (a .frames .now)) (c .before .before .before .before .before .before .before .before .before .before .total-of .ensures) (c .before .before .before .before .before .before .before .before .before .if1 .left) (c .before .before .before .before .before .before .before .before .if2 .left) (c .before .before .before .before .before .before .before .is-narrow .ensures) (c .before .before .before .before .before .before .if3 .left) (c .before .before .before .before .if4 .left) (sym (ap judgedOf (c .before .enum-told .given .1)) ∙ c .before .before .before .items .ensures)
+    ∙ meaning-reply (given (a .configuration) (a .events .now) (a .octets .now) (a .replies .now) (a .frames .now)) (c .before .before .before .before .before .before .before .before .before .before .total-of .ensures) (c .before .before .before .before .before .before .before .before .before .if1 .left) (c .before .before .before .before .before .before .before .before .if2 .left) (c .before .before .before .before .before .before .before .is-narrow .ensures) (c .before .before .before .before .before .before .if3 .left) (c .before .before .before .before .before .is-set .ensures) (c .before .before .before .before .if4 .left) (sym (ap judgedOf (c .before .enum-told .given .1)) ∙ c .before .before .before .items .ensures)
 
 returns-6 : tie.Need-returns-6
 returns-6 c =
     let a = c .before .before .before .before .before .before .before .before .before .before .before .before .before .args in
     let h = c .before .judged .given in
-    meaning-event (given (a .configuration) (a .events .now) (a .octets .now) (a .replies .now) (a .frames .now)) (c .before .before .before .before .before .before .before .before .before .before .total-of .ensures) (c .before .before .before .before .before .before .before .before .before .if1 .left) (c .before .before .before .before .before .before .before .before .if2 .left) (c .before .before .before .before .before .before .before .is-narrow .ensures) (c .before .before .before .before .before .before .if3 .left) (c .before .before .before .before .if4 .left) (numberOf (h .0 .0)) (sym (ap judgedOf (h .1)) ∙ c .before .before .before .items .ensures)
+    meaning-event (given (a .configuration) (a .events .now) (a .octets .now) (a .replies .now) (a .frames .now)) (c .before .before .before .before .before .before .before .before .before .before .total-of .ensures) (c .before .before .before .before .before .before .before .before .before .if1 .left) (c .before .before .before .before .before .before .before .before .if2 .left) (c .before .before .before .before .before .before .before .is-narrow .ensures) (c .before .before .before .before .before .before .if3 .left) (c .before .before .before .before .before .is-set .ensures) (c .before .before .before .before .if4 .left) (numberOf (h .0 .0)) (sym (ap judgedOf (h .1)) ∙ c .before .before .before .items .ensures)
 
 pub judge-spec : {M : Type 1} → statement M
 judge-spec =
@@ -67,6 +70,7 @@ judge-spec =
     returns-2
     is-narrow-requires
     returns-3
+    is-set-requires
     returns-4
     items-requires
     enum-told

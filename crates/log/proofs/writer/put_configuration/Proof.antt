@@ -41,13 +41,22 @@ wide-requires c κs = search needs
 put-number-requires-5 : tie.Need-put-number-requires-5
 put-number-requires-5 c κs = search needs
 
+add-put-number-5 : tie.Need-add-put-number-5
+add-put-number-5 c = search needs
+
+wide-requires-2 : tie.Need-wide-requires-2
+wide-requires-2 c κs = search needs
+
+put-number-requires-6 : tie.Need-put-number-requires-6
+put-number-requires-6 c κs = search needs
+
 same-length : tie.Need-same-length
 same-length c = search needs
 
 returns : tie.Need-returns
 returns c =
-    let a = c .before .before .before .before .before .before .before .before .before .before .before .before .before .before .before .before .before .before .before .before .before .before .before .before .before .before .before .before .before .before .args in
-    rw (c .before .before .put-number5 .ensures, c .before .before .before .wide .ensures .0, c .before .before .before .before .before .before .before .put-number4 .ensures, c .before .before .before .before .before .before .before .before .before .before .before .put-number3 .ensures, c .before .before .before .before .before .before .before .before .before .before .before .before .before .before .before .put-low-number .ensures, c .before .before .before .before .before .before .before .before .before .before .before .before .before .before .before .before .before .before .before .put-number2 .ensures, c .before .before .before .before .before .before .before .before .before .before .before .before .before .before .before .before .before .before .before .before .before .before .before .put-number .ensures)
+    let a = c .before .before .before .before .before .before .before .before .before .before .before .before .before .before .before .before .before .before .before .before .before .before .before .before .before .before .before .before .before .before .before .before .before .before .before .args in
+    rw (c .before .before .put-number6 .ensures, c .before .before .before .wide2 .ensures .0, c .before .before .before .before .before .before .before .put-number5 .ensures, c .before .before .before .before .before .before .before .before .wide .ensures .0, c .before .before .before .before .before .before .before .before .before .before .before .before .put-number4 .ensures, c .before .before .before .before .before .before .before .before .before .before .before .before .before .before .before .before .put-number3 .ensures, c .before .before .before .before .before .before .before .before .before .before .before .before .before .before .before .before .before .before .before .before .put-low-number .ensures, c .before .before .before .before .before .before .before .before .before .before .before .before .before .before .before .before .before .before .before .before .before .before .before .before .put-number2 .ensures, c .before .before .before .before .before .before .before .before .before .before .before .before .before .before .before .before .before .before .before .before .before .before .before .before .before .before .before .before .put-number .ensures)
     (store-encode fields (valuesOf (a .configuration)) headOctets (a .out .now) tt)
 
 pub put-configuration-spec : {M : Type 1} → statement M
@@ -66,5 +75,8 @@ put-configuration-spec =
     add-put-number-4
     wide-requires
     put-number-requires-5
+    add-put-number-5
+    wide-requires-2
+    put-number-requires-6
     same-length
     returns)
