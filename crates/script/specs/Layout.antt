@@ -6,13 +6,14 @@ use mathlib.Core.Option.{Option, some}
 use lib.Dec.{eqb, ltb}
 use lib.ListN.{length}
 use Rattle.messages.specs.declared.CarAddress.{CarAddress}
+use Rattle.messages.specs.declared.Edition.{Edition}
 use Rattle.messages.specs.declared.ModemAddress.{ModemAddress}
 use Rattle.messages.specs.declared.Nid.{Nid}
 use Rattle.messages.specs.declared.Nmk.{Nmk}
 use Rattle.messages.specs.declared.StationAddress.{StationAddress}
 use Rattle.octets.specs.Octets.{value, lowValue}
 use Rattle.rules.specs.Calls.{Call, frame, tick, pilot, terminate, linkUp}
-use Rattle.rules.specs.Numbers.{pilotOf}
+use Rattle.rules.specs.Numbers.{pilotOf, editionOf}
 use Rattle.script.specs.Events as events
 use Rattle.script.specs.Events.{call, query, given}
 
@@ -42,13 +43,25 @@ exemptionIn h = lowValue h 35 4
 abbrev pub exemptIn : List ℕ → Bool
 exemptIn h = eqb (exemptionIn h) 1
 
--- whether the head keeps to the layout: the exemption is 1 or 0
+-- the number of the edition: 0 for ISO, 1 for SAE
+abbrev pub editionNumberIn : List ℕ → ℕ
+editionNumberIn h = lowValue h 39 4
+
+-- the edition
+abbrev pub editionIn : List ℕ → Edition
+editionIn h = editionOf (editionNumberIn h)
+
+-- whether a number is a setting's: 1 or 0
+abbrev pub isSetting : ℕ → Bool
+isSetting n = ltb n 2
+
+-- whether the head keeps to the layout: the exemption and the edition are 1 or 0
 abbrev pub isHead : List ℕ → Bool
-isHead h = ltb (exemptionIn h) 2
+isHead h = isSetting (exemptionIn h) && isSetting (editionNumberIn h)
 
 -- the number of events
 abbrev pub countIn : List ℕ → ℕ
-countIn h = lowValue h 39 4
+countIn h = lowValue h 43 4
 
 -- ---- an event
 

@@ -10,13 +10,13 @@ use Rattle.rules.specs.Rules.{configured, configuring, step, outcome, query}
 use Rattle.rules.specs.Invariant.{Invariant}
 use Rattle.script.specs.declared.Started.{Started}
 use Rattle.script.specs.declared.Happened.{Happened}
-use Rattle.script.specs.Layout.{addressIn, modemIn, nidIn, nmkIn, exemptIn, isHead, Event}
+use Rattle.script.specs.Layout.{addressIn, modemIn, nidIn, nmkIn, exemptIn, editionIn, isHead, Event}
 use Rattle.script.specs.Replies.{callReply, queryReply, toldOctets}
 use Rattle.script.specs.Ends.{StartsAs, after, replyTo, CarriedOut}
 
 -- the whole promise of starting by the head h: the script goes on where the head keeps to the layout
 pub record Starts (h : List ℕ) (r : Started) : Type 0 where
-  pub starts : StartsAs Invariant (configured (addressIn h) (modemIn h) (nidIn h) (nmkIn h) (exemptIn h)) (configuring (addressIn h) (modemIn h) (nidIn h)) (r .station) (r .answer)
+  pub starts : StartsAs Invariant (configured (addressIn h) (modemIn h) (nidIn h) (nmkIn h) (exemptIn h) (editionIn h)) (configuring (addressIn h) (modemIn h) (nidIn h)) (r .station) (r .answer)
   pub on : r .on ≡ isHead h
 
 -- the reply to an event: a service query's is what the query tells

@@ -20,8 +20,8 @@ ghost use Rattle.script.specs.Events.{lengthIn};
 ghost use Rattle.script.specs.Layout.{countIn, kinds};
 ghost use Rattle.script.specs.Promises.{Starts, Happens};
 
-// How many octets the head takes: two addresses, NID, NMK, the exemption and the number of events.
-pub const HEAD_OCTETS: usize = 43;
+// How many octets the head takes: two addresses, NID, NMK, the exemption, the edition and the number of events.
+pub const HEAD_OCTETS: usize = 47;
 
 // How many octets stand in front of an event's own: kind, reading, room and length.
 pub const EVENT_OCTETS: usize = 16;
@@ -64,14 +64,22 @@ pub fn start(head: &[u8]) -> Started
         octets::number_at(head, 27, 8),
     );
     let exemption = octets::low_number_at(head, 35, 4);
-    let configured = rules::configure(address, modem, nid, nmk, exemption == 1);
+    let edition = octets::low_number_at(head, 39, 4);
+    let configured = rules::configure(
+        address,
+        modem,
+        nid,
+        nmk,
+        exemption == 1,
+        rules::edition_of(edition),
+    );
     let station = configured.station;
     let answer = configured.answer;
     let octets = numbers::octets_of(replies::refusal_of(answer) as u64);
     Started {
         station: station,
         answer: octets,
-        on: exemption < 2,
+        on: (exemption < 2) & (edition < 2),
     }
 }
 
@@ -79,7 +87,7 @@ pub fn start(head: &[u8]) -> Started
 pub fn event_count(head: &[u8]) -> u64
     ensures { λ r. ⌜ r ≡ countIn (now (head .entry)) ⌝ }
 {
-    octets::low_number_at(head, 39, 4)
+    octets::low_number_at(head, 43, 4)
 }
 
 // How many octets follow an event's first ones.

@@ -1,7 +1,8 @@
 -- The head's numbers; then configuring.
 use Prim.Native.Nat.{ℕ}
-use mathlib.Core.Path.{ap}
-use lib.Dec.{ltb}
+use mathlib.Core.Path.{ap₂}
+use mathlib.Core.Bool.{_&&_}
+use Rattle.script.specs.Layout.{isSetting}
 use Rattle.script.proofs.EventLaws.{started}
 use borrow.Author.Needs.{needs}
 use Rattle.script.proofs.start.Statement.{statement}
@@ -25,6 +26,12 @@ number-at-requires-4 c κs = search needs
 low-number-at-requires-2 : tie.Need-low-number-at-requires-2
 low-number-at-requires-2 c κs = search needs
 
+low-number-at-requires-3 : tie.Need-low-number-at-requires-3
+low-number-at-requires-3 c κs = search needs
+
+edition-of-requires : tie.Need-edition-of-requires
+edition-of-requires c κs = search needs
+
 configure-requires : tie.Need-configure-requires
 configure-requires c κs = search needs
 
@@ -40,11 +47,13 @@ octets-of-requires c κs = search needs
 returns : tie.Need-returns
 returns c =
     let g = c .before .before .before .configure .ensures in
+    let exemption = c .before .before .before .before .before .before .low-number-at2 .ensures in
+    let edition = c .before .before .before .before .before .low-number-at3 .ensures in
     record {
       starts =
-          rw (← c .before .before .before .before .before .before .before .before .before .number-at .ensures, ← c .before .before .before .before .before .before .before .before .number-at2 .ensures, ← c .before .before .before .before .before .before .before .low-number-at .ensures, ← c .before .before .before .before .before .before .number-at3 .ensures, ← c .before .before .before .before .before .number-at4 .ensures, ← c .before .before .before .before .low-number-at2 .ensures)
+          rw (← c .before .before .before .before .before .before .before .before .before .before .before .number-at .ensures, ← c .before .before .before .before .before .before .before .before .before .before .number-at2 .ensures, ← c .before .before .before .before .before .before .before .before .before .low-number-at .ensures, ← c .before .before .before .before .before .before .before .before .number-at3 .ensures, ← c .before .before .before .before .before .before .before .number-at4 .ensures, ← exemption, ← edition, ← c .before .before .before .before .edition-of .ensures)
           (started (g .station) (g .answer) (g .kept) (c .before .refusal-of .ensures) (c .octets-of .ensures));
-      on = ap (λ (n : ℕ). ltb n 2) (c .before .before .before .before .low-number-at2 .ensures);
+      on = ap₂ (λ (m n : ℕ). isSetting m && isSetting n) exemption edition;
     }
 
 pub start-spec : {M : Type 1} → statement M
@@ -57,6 +66,8 @@ start-spec =
     number-at-requires-3
     number-at-requires-4
     low-number-at-requires-2
+    low-number-at-requires-3
+    edition-of-requires
     configure-requires
     refusal-of-requires
     cast-octets-of
