@@ -7,8 +7,18 @@ use log::Head;
 use log::MOST_OCTETS;
 ghost use Prim.Native.Nat.{_≤_};
 
+// The sentence for the first setting of a log's configuration that is neither 1 nor 0.
+fn say_setting(log: &[u8]) {
+    let configuration = log::configuration_in(log);
+    if 1 < configuration.exemption {
+        text::say(b"octet 55: whether validation is not required is neither 1 nor 0\n");
+    } else {
+        text::say(b"octet 59: the edition is neither 1 nor 0\n");
+    }
+}
+
 // The sentence for a cause, by its number; octets of the log are counted from 0.
-fn say_cause(number: u32) {
+fn say_cause(number: u32, log: &[u8]) {
     match number {
         1 => text::say(b"the log is longer than 65,536 octets\n"),
         2 => text::say(b"the log has fewer than 20 octets: it ends before its head does\n"),
@@ -18,7 +28,7 @@ fn say_cause(number: u32) {
         6 => text::say(
             b"octet 16: the total length is not the log's, or not where the replies end\n",
         ),
-        8 => text::say(b"octet 55: whether validation is not required is neither 1 nor 0\n"),
+        8 => say_setting(log),
         9 => text::say(b"the kind is over 4\n"),
         10 => text::say(b"the reading is not 0, and it is neither a tick nor a pilot change\n"),
         11 => text::say(
@@ -106,5 +116,5 @@ pub(crate) fn tell(log: &[u8], cause: Cause) {
         13 | 14 => say_item(b"reply ", number, log, text::wide(log::head_at(log, 12)[0])),
         _ => (),
     }
-    say_cause(number);
+    say_cause(number, log);
 }

@@ -15,7 +15,7 @@ use Rattle.ends.proofs.AnswerLaws.{no-same, yes-same}
 use Rattle.log.specs.declared.Places.{Places}
 use Rattle.log.specs.Meaning.{Log}
 use Rattle.log.specs.Layout.{mostOctets, headOctets, eventsStart}
-use Rattle.log.specs.Reading.{countIn, replyCountIn, eventsIn, repliesIn, totalIn, endsAt, partRules, eventRules, replyRules, itemRules, fieldRules, logIn, readRules}
+use Rattle.log.specs.Reading.{countIn, replyCountIn, eventsIn, repliesIn, totalIn, endsAt, partRules, isSet, eventRules, replyRules, itemRules, fieldRules, logIn, readRules}
 use Rattle.log.specs.Answers.{placesIn, placesOf}
 use Rattle.replaying.specs.Replaying.{differenceIn, replayRules}
 use Rattle.replaying.specs.Private.{Listed}
@@ -50,7 +50,7 @@ module _ (s : List ℕ) where
   pub fields : (l m : Log) → fieldRules l ≡ yes m → (itemRules eventRules (l .events) ≡ yes tt) × (l ≡ m)
   unfolding fieldRules
   fields l m e =
-      let one = passed (leb (l .configuration .exemption) 1) 8 _ m e in
+      let one = passed (isSet (l .configuration)) 8 _ m e in
       let two = then-yes (itemRules eventRules (l .events)) _ m (one .1) in
       let three = then-yes (itemRules replyRules (l .replies)) (λ (_ : Unit {0}). yes l) m (two .1) in
       (two .0, yes-same l m (three .1))

@@ -7,11 +7,12 @@ use mathlib.Core.Option.{Option, none, some}
 use native.Mathlib.Omega.{arith}
 use lib.Dec.{eqb, leb, ltb}
 use lib.ListN.{length, drop}
+use Rattle.octets.specs.Octets.{value}
 use Rattle.messages.specs.Layout.{Values, size, holds, read}
-use Rattle.messages.specs.Table.{Kind, slacParmReq, slacParmCnf, startAttenCharInd, attenCharInd, attenCharRsp, mnbcSoundInd, validateReq, validateCnf, slacMatchReq, slacMatchCnf, attenProfileInd, head, filledSize, writtenSize, payload, addressed, Message}
-use Rattle.messages.specs.Reading.{Checked, no, yes, check, ofType, kinds, sized, kindRules, frameRules, readRules}
+use Rattle.messages.specs.Table.{Kind, slacParmReq, slacParmCnf, startAttenCharInd, attenCharInd, attenCharRsp, mnbcSoundInd, validateReq, validateCnf, slacMatchReq, slacMatchCnf, attenProfileInd, isCount, countAt, head, filledSize, writtenSize, payload, addressed, Message}
+use Rattle.messages.specs.Reading.{Checked, no, yes, check, ofType, kinds, Form, countRules, sized, typed, kindRules, payloadRules, frameRules, readRules}
 use Rattle.ends.specs.Clock.{elapsed, tickTime}
-use Rattle.ends.specs.Constants.{retryCount, soundCount, longestGap}
+use Rattle.ends.specs.Constants.{retryCount, longestGap}
 use Rattle.ends.proofs.AnswerLaws.{no-same}
 use Rattle.ends.proofs.Logic.{on-cond}
 use Rattle.ends.specs.Outcomes.{andThen, outcomeOf}
@@ -23,14 +24,16 @@ use Rattle.rules.specs.declared.State.{State}
 use Rattle.rules.specs.declared.State.the-variants.{Unmatched, Matching, Joining, Matched}
 use Rattle.rules.specs.declared.Station.{Station}
 use Rattle.messages.specs.declared.CarAddress.{CarAddress}
+use Rattle.messages.specs.declared.Edition.{Edition}
+use Rattle.messages.specs.declared.Edition.the-variants.{Iso, Sae}
 use Rattle.messages.specs.declared.RunId.{RunId}
 use Rattle.rules.specs.Calls.{Call, frame, tick, pilot, terminate, linkUp}
 use Rattle.rules.specs.Events.{linkRule}
 use Rattle.rules.specs.Frames.{Kept, keeps, ownPlace, putBack, atRun, mayMatch, startRule, soundRule, profileRule, rspRule, firstRule, secondRule, atOwn, parmRule, changeRule, matchRule, stateRule, admitted}
-use Rattle.rules.specs.Records.{sameCar, sameRun, isEmpty, mine, freePlaces, reported, counted}
+use Rattle.rules.specs.Records.{sameCar, sameRun, isEmpty, mine, freePlaces, reported, fitsGroups, groupsKept, counted}
 use Rattle.rules.specs.Sounds.{isIn}
 use Rattle.rules.specs.Validation.{firstResult}
-use Rattle.rules.specs.Constants.{leastOutput}
+use Rattle.rules.specs.Constants.{soundsPerTry, pairOf, leastOutput}
 use Rattle.rules.specs.Replies.{reportOf}
 use Rattle.rules.specs.Ticks.{tickElapsed}
 use Rattle.rules.specs.Received.{RecordMessage, parmReq, start, sound, profile, rsp, validateFirst, validateSecond, Request, forRecord, matchReq, Received, receivedAs, received, isForUs}
@@ -62,74 +65,84 @@ of-then (yes x) f h g = g x
 
 -- ---- reading
 
-of-sized : (k : Option Kind) (n : ℕ) → Fits (sized k n)
-of-sized none n = of-no 3 (omega arith)
-of-sized (some k) n = of-check (leb (filledSize k) n) 1 _ (omega arith) (of-check (leb n (writtenSize k)) 4 (yes k) (omega arith) (of-yes _))
+of-count : (e : Edition) (at : Option ℕ) (s : List ℕ) → Fits (countRules e at s)
+of-count e none s = of-yes _
+of-count Iso (some at) s = of-yes _
+of-count Sae (some at) s = of-check (ltb (size head + at) (length s)) 1 _ (omega arith) (of-check (isCount Sae (value s (size head + at) 1)) 6 _ (omega arith) (of-yes _))
 
-of-kinds : (s : List ℕ) → Fits (kindRules s)
+of-sized : (k : Kind) (n : ℕ) (w : Checked ℕ) → Fits w → Fits (sized k n w)
+of-sized k n (no x) h = of-no x (h .fits x refl)
+of-sized k n (yes g) h = of-check (leb (filledSize k g) n) 1 _ (omega arith) (of-check (leb n (writtenSize k g)) 4 _ (omega arith) (of-yes _))
+
+of-typed : (e : Edition) (k : Option Kind) (s : List ℕ) → Fits (typed e k s)
+of-typed e none s = of-no 3 (omega arith)
+of-typed e (some k) s = of-sized k (length s) (countRules e (countAt k) s) (of-count e (countAt k) s)
+
+of-kinds : (e : Edition) (s : List ℕ) → Fits (kindRules e s)
 unfolding kindRules
-of-kinds s = of-check (leb (size head) (length s)) 1 _ (omega arith) (of-check (holds 0 head s) 2 _ (omega arith) (of-sized (ofType (read 0 head s .1 .1 .0) kinds) (length s)))
+of-kinds e s = of-check (leb (size head) (length s)) 1 _ (omega arith) (of-check (holds 0 head s) 2 _ (omega arith) (of-typed e (ofType (read 0 head s .1 .1 .0) kinds) s))
 
-of-frame : (w : Checked Kind) (s : List ℕ) → Fits w → Fits (frameRules w s)
-of-frame (no n) s h = of-no n (h .fits n refl)
-of-frame (yes k) s h =
-    let d = read 0 head s .0 in
-    let f = read 0 head s .1 .0 in
-    let p = drop (size head) s in
-    of-check (addressed k d f (read 0 (payload k d f) p)) 5 _ (omega arith) (of-check (holds 0 (payload k d f) p) 6 _ (omega arith) (of-yes _))
+of-payload : (e : Edition) (k : Kind) (g d f : ℕ) (p : List ℕ) → Fits (payloadRules e k g d f p)
+of-payload e k g d f p = of-check (addressed e k g d f (read 0 (payload e k g d f) p)) 5 _ (omega arith) (of-check (holds 0 (payload e k g d f) p) 6 _ (omega arith) (of-yes _))
 
-of-reading : (s : List ℕ) → Fits (readRules s)
+of-frame : (e : Edition) (w : Checked Form) (s : List ℕ) → Fits w → Fits (frameRules e w s)
+of-frame e (no n) s h = of-no n (h .fits n refl)
+of-frame e (yes t) s h = of-payload e (t .kind) (t .count) (read 0 head s .0) (read 0 head s .1 .0) (drop (size head) s)
+
+of-reading : (e : Edition) (s : List ℕ) → Fits (readRules e s)
 unfolding readRules
-of-reading s = of-frame (kindRules s) s (of-kinds s)
+of-reading e s = of-frame e (kindRules e s) s (of-kinds e s)
 
-of-kind : (k : Kind) (d f : ℕ) (vs : Values (payload k d f)) → Fits (receivedAs k d f vs)
-of-kind slacParmReq d f vs = of-yes _
-of-kind slacParmCnf d f vs = of-no 17 (omega arith)
-of-kind startAttenCharInd d f vs = of-yes _
-of-kind attenCharInd d f vs = of-no 17 (omega arith)
-of-kind attenCharRsp d f vs = of-yes _
-of-kind mnbcSoundInd d f vs = of-yes _
-of-kind validateReq d f vs = of-yes _
-of-kind validateCnf d f vs = of-no 17 (omega arith)
-of-kind slacMatchReq d f vs = of-yes _
-of-kind slacMatchCnf d f vs = of-no 17 (omega arith)
-of-kind attenProfileInd d f vs = of-yes _
+of-kind : (e : Edition) (k : Kind) (g d f : ℕ) (vs : Values (payload e k g d f)) → Fits (receivedAs e k g d f vs)
+of-kind e slacParmReq g d f vs = of-yes _
+of-kind e slacParmCnf g d f vs = of-no 17 (omega arith)
+of-kind e startAttenCharInd g d f vs = of-yes _
+of-kind e attenCharInd g d f vs = of-no 17 (omega arith)
+of-kind e attenCharRsp g d f vs = of-yes _
+of-kind e mnbcSoundInd g d f vs = of-yes _
+of-kind e validateReq g d f vs = of-yes _
+of-kind e validateCnf g d f vs = of-no 17 (omega arith)
+of-kind e slacMatchReq g d f vs = of-yes _
+of-kind e slacMatchCnf g d f vs = of-no 17 (omega arith)
+of-kind e attenProfileInd g d f vs = of-yes _
 
-of-received : (s : List ℕ) → Fits (received s)
+of-received : (e : Edition) (s : List ℕ) → Fits (received e s)
 unfolding received
-of-received s = of-then (readRules s) (λ (m : Message). receivedAs (m .kind) (m .dst) (m .src) (m .values)) (of-reading s) (λ m. of-kind (m .kind) (m .dst) (m .src) (m .values))
+of-received e s = of-then (readRules e s) (λ (m : Message). receivedAs (m .edition) (m .kind) (m .count) (m .dst) (m .src) (m .values)) (of-reading e s) (λ m. of-kind (m .edition) (m .kind) (m .count) (m .dst) (m .src) (m .values))
 
 -- ---- at a record
 
-of-start : (r : Record) (p : Phase) → Fits (startRule r p)
+of-start : (e : Edition) (a : ℕ) (r : Record) (p : Phase) → Fits (startRule e a r p)
 unfolding startRule
-of-start r (Asked t) = of-yes _
-of-start r (Sounding t) = of-yes _
-of-start r (Reported t n) = of-no 12 (omega arith)
-of-start r (Awaiting t) = of-no 12 (omega arith)
-of-start r (Ready t) = of-no 12 (omega arith)
-of-start r (Counting t n b) = of-no 12 (omega arith)
-of-start r (Success t) = of-no 12 (omega arith)
+of-start e a r (Asked t) = of-check (eqb a (pairOf e (r .later))) 22 _ (omega arith) (of-yes _)
+of-start e a r (Sounding t) = of-check (eqb a (pairOf e (r .later))) 22 _ (omega arith) (of-yes _)
+of-start e a r (Reported t n) = of-no 12 (omega arith)
+of-start e a r (Awaiting t) = of-no 12 (omega arith)
+of-start e a r (Ready t) = of-no 12 (omega arith)
+of-start e a r (Counting t n b) = of-no 12 (omega arith)
+of-start e a r (Success t) = of-no 12 (omega arith)
 
-of-sound : (k : ℕ) (r : Record) (p : Phase) → Fits (soundRule k r p)
+of-sound : (e : Edition) (k : ℕ) (r : Record) (p : Phase) → Fits (soundRule e k r p)
 unfolding soundRule
-of-sound k r (Asked t) = of-no 12 (omega arith)
-of-sound k r (Sounding t) = of-check (ltb k soundCount) 13 _ (omega arith) (of-check (not (isIn k (r .heard))) 13 _ (omega arith) (of-yes _))
-of-sound k r (Reported t n) = of-no 12 (omega arith)
-of-sound k r (Awaiting t) = of-no 12 (omega arith)
-of-sound k r (Ready t) = of-no 12 (omega arith)
-of-sound k r (Counting t n b) = of-no 12 (omega arith)
-of-sound k r (Success t) = of-no 12 (omega arith)
+of-sound e k r (Asked t) = of-no 12 (omega arith)
+of-sound e k r (Sounding t) = of-check (ltb k (soundsPerTry e (r .later))) 13 _ (omega arith) (of-check (not (isIn k (r .heard))) 13 _ (omega arith) (of-yes _))
+of-sound e k r (Reported t n) = of-no 12 (omega arith)
+of-sound e k r (Awaiting t) = of-no 12 (omega arith)
+of-sound e k r (Ready t) = of-no 12 (omega arith)
+of-sound e k r (Counting t n b) = of-no 12 (omega arith)
+of-sound e k r (Success t) = of-no 12 (omega arith)
 
-of-profile : (vs : List ℕ) (r : Record) (p : Phase) → Fits (profileRule vs r p)
+of-profile : (e : Edition) (g : ℕ) (vs : List ℕ) (r : Record) (p : Phase) → Fits (profileRule e g vs r p)
 unfolding profileRule
-of-profile vs r (Asked t) = of-no 12 (omega arith)
-of-profile vs r (Sounding t) = on-cond Fits (eqb (r .profiles + 1) soundCount) (keeps (reported retryCount (counted vs r)) (reportOf (counted vs r) ∷ [])) (keeps (counted vs r) []) (λ _. of-yes _) (λ _. of-yes _)
-of-profile vs r (Reported t n) = of-no 12 (omega arith)
-of-profile vs r (Awaiting t) = of-no 12 (omega arith)
-of-profile vs r (Ready t) = of-no 12 (omega arith)
-of-profile vs r (Counting t n b) = of-no 12 (omega arith)
-of-profile vs r (Success t) = of-no 12 (omega arith)
+of-profile e g vs r (Asked t) = of-no 12 (omega arith)
+of-profile e g vs r (Sounding t) =
+    of-check (fitsGroups g (r .groups)) 23 _ (omega arith)
+    (on-cond Fits (eqb (r .profiles + 1) (soundsPerTry e (r .later))) (keeps (reported retryCount (counted (groupsKept e g) vs r)) (reportOf (counted (groupsKept e g) vs r) ∷ [])) (keeps (counted (groupsKept e g) vs r) []) (λ _. of-yes _) (λ _. of-yes _))
+of-profile e g vs r (Reported t n) = of-no 12 (omega arith)
+of-profile e g vs r (Awaiting t) = of-no 12 (omega arith)
+of-profile e g vs r (Ready t) = of-no 12 (omega arith)
+of-profile e g vs r (Counting t n b) = of-no 12 (omega arith)
+of-profile e g vs r (Success t) = of-no 12 (omega arith)
 
 of-rsp : (r : Record) (p : Phase) → Fits (rspRule r p)
 unfolding rspRule
@@ -167,20 +180,20 @@ of-put-back w h = of-then w (λ (k : Kept). yes (record { place = ownPlace; kept
 of-run : (run : RunId) (rs : List Record) (f : Record → Checked Kept) → ((r : Record) → Fits (f r)) → Fits (atRun run rs f)
 of-run run rs f h = of-own rs (λ (r : Record). check (sameRun run (r .run)) 11 (f r)) (λ r. of-check (sameRun run (r .run)) 11 (f r) (omega arith) (h r))
 
-of-parm : (c : CarAddress) (run : RunId) (admission free : ℕ) (own : List Record) → Fits (parmRule c run admission free own)
+of-parm : (e : Edition) (c : CarAddress) (run : RunId) (admission free : ℕ) (own : List Record) → Fits (parmRule e c run admission free own)
 unfolding parmRule
-of-parm c run admission free [] = of-check (ltb 0 admission) 9 _ (omega arith) (of-check (ltb 0 free) 10 _ (omega arith) (of-yes _))
-of-parm c run admission free (r ∷ rs) = of-yes _
+of-parm e c run admission free [] = of-check (ltb 0 admission) 9 _ (omega arith) (of-check (ltb 0 free) 10 _ (omega arith) (of-yes _))
+of-parm e c run admission free (r ∷ rs) = of-yes _
 
-of-change : (c : CarAddress) (m : RecordMessage) (admission free result : ℕ) (own : List Record) → Fits (changeRule c m admission free result own)
+of-change : (e : Edition) (c : CarAddress) (m : RecordMessage) (admission free result : ℕ) (own : List Record) → Fits (changeRule e c m admission free result own)
 unfolding changeRule
-of-change c (parmReq run) admission free result own = of-check (not (isEmpty run)) 21 _ (omega arith) (of-parm c run admission free own)
-of-change c (start run) admission free result own = of-put-back _ (of-run run own (λ (r : Record). startRule r (r .phase)) (λ r. of-start r (r .phase)))
-of-change c (sound run k) admission free result own = of-put-back _ (of-run run own (λ (r : Record). soundRule k r (r .phase)) (λ r. of-sound k r (r .phase)))
-of-change c (profile vs) admission free result own = of-put-back _ (of-own own (λ (r : Record). profileRule vs r (r .phase)) (λ r. of-profile vs r (r .phase)))
-of-change c (rsp run) admission free result own = of-put-back _ (of-run run own (λ (r : Record). rspRule r (r .phase)) (λ r. of-rsp r (r .phase)))
-of-change c validateFirst admission free result own = of-put-back _ (of-own own (λ (r : Record). firstRule result r (r .phase)) (λ r. of-first result r (r .phase)))
-of-change c (validateSecond timer) admission free result own = of-put-back _ (of-own own (λ (r : Record). secondRule timer r (r .phase)) (λ r. of-second timer r (r .phase)))
+of-change e c (parmReq run) admission free result own = of-check (not (isEmpty run)) 21 _ (omega arith) (of-parm e c run admission free own)
+of-change e c (start run a) admission free result own = of-put-back _ (of-run run own (λ (r : Record). startRule e a r (r .phase)) (λ r. of-start e a r (r .phase)))
+of-change e c (sound run k) admission free result own = of-put-back _ (of-run run own (λ (r : Record). soundRule e k r (r .phase)) (λ r. of-sound e k r (r .phase)))
+of-change e c (profile g vs) admission free result own = of-put-back _ (of-own own (λ (r : Record). profileRule e g vs r (r .phase)) (λ r. of-profile e g vs r (r .phase)))
+of-change e c (rsp run) admission free result own = of-put-back _ (of-run run own (λ (r : Record). rspRule r (r .phase)) (λ r. of-rsp r (r .phase)))
+of-change e c validateFirst admission free result own = of-put-back _ (of-own own (λ (r : Record). firstRule result r (r .phase)) (λ r. of-first result r (r .phase)))
+of-change e c (validateSecond timer) admission free result own = of-put-back _ (of-own own (λ (r : Record). secondRule timer r (r .phase)) (λ r. of-second timer r (r .phase)))
 
 of-match : (run : RunId) (own : List Record) → Fits (matchRule run own)
 unfolding matchRule
@@ -193,10 +206,10 @@ of-match run own =
 of-state : (o : Configuration) (st : State) (rs : List Record) (c : CarAddress) (m : Request) → Fits (stateRule o st rs c m)
 unfolding stateRule
 of-state o Unmatched rs c m = of-no 8 (omega arith)
-of-state o (Matching a) rs c (forRecord m) = of-then (changeRule c m a (freePlaces rs) (firstResult (o .exempt) rs) (mine c rs)) _ (of-change c m a (freePlaces rs) (firstResult (o .exempt) rs) (mine c rs)) (λ x. of-yes _)
-of-state o (Matching a) rs c (matchReq run) = of-then (matchRule run (mine c rs)) _ (of-match run (mine c rs)) (λ x. of-yes _)
+of-state o (Matching t) rs c (forRecord m) = of-then (changeRule (o .edition) c m t (freePlaces rs) (firstResult (o .exempt) rs) (mine c rs)) _ (of-change (o .edition) c m t (freePlaces rs) (firstResult (o .exempt) rs) (mine c rs)) (λ x. of-yes _)
+of-state o (Matching t) rs c (matchReq run a b) = of-then (matchRule run (mine c rs)) _ (of-match run (mine c rs)) (λ x. of-yes _)
 of-state o (Joining l d k) rs c (forRecord m) = of-no 8 (omega arith)
-of-state o (Joining l d k) rs c (matchReq run) = of-check (sameCar c d && sameRun run k) 11 _ (omega arith) (of-yes _)
+of-state o (Joining l d k) rs c (matchReq run a b) = of-check (sameCar c d && sameRun run k) 11 _ (omega arith) (of-yes _)
 of-state o Matched rs c m = of-no 8 (omega arith)
 
 of-admitted : (o : Configuration) (room : ℕ) (w : Checked Received) → Fits w → Fits (admitted o room w)
@@ -219,7 +232,7 @@ of-link Matched rs = of-no 8 (omega arith)
 
 of-rule : (o : Shared) (i : Inner) (x : Call) → Fits (rule o i x)
 unfolding rule
-of-rule o i (frame s room) = of-then (admitted (o .config) room (received s)) _ (of-admitted (o .config) room (received s) (of-received s)) (λ y. of-state (o .config) (i .state) (i .records) (y .car) (y .request))
+of-rule o i (frame s room) = of-then (admitted (o .config) room (received (o .config .edition) s)) _ (of-admitted (o .config) room (received (o .config .edition) s) (of-received (o .config .edition) s)) (λ y. of-state (o .config) (i .state) (i .records) (y .car) (y .request))
 of-rule o i (tick t room) = of-then (tickElapsed o t room) _ (of-tick (o .config .good) leastOutput room t (o .clock)) (λ e. of-yes _)
 of-rule o i (pilot p t) = of-check (o .config .good) 16 _ (omega arith) (of-yes _)
 of-rule o i terminate = of-check (o .config .good) 16 _ (omega arith) (of-yes _)

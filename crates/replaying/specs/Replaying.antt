@@ -11,6 +11,7 @@ use Rattle.ends.specs.Outcomes.{Outcome, joined, andThen}
 use Rattle.rules.specs.declared.Station.{Station}
 use Rattle.rules.specs.Calls.{Call}
 use Rattle.rules.specs.Constants.{leastOutput}
+use Rattle.rules.specs.Numbers.{editionOf}
 use Rattle.rules.specs.Rules.{configured, step, outcome}
 use Rattle.script.specs.Events.{call, query}
 use Rattle.script.specs.Layout.{Event, kinds}
@@ -22,7 +23,7 @@ use Rattle.log.specs.Reading.{readRules}
 
 -- the station that a log's configuration gives: of a bad one too
 abbrev pub stationOf : Configuration → Station
-stationOf c = configured (c .address) (c .modem) (c .nid) (c .nmk) (eqb (c .exemption) 1)
+stationOf c = configured (c .address) (c .modem) (c .nid) (c .nmk) (eqb (c .exemption) 1) (editionOf (c .edition))
 
 -- the call that an event of a script is
 abbrev pub callIn : Option Event → Option Call

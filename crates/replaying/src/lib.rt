@@ -84,7 +84,8 @@ pub fn station_of(configuration: Configuration) -> Station
     let nid = configuration.nid;
     let nmk = configuration.nmk;
     let exemption = configuration.exemption;
-    let configured = rules::configure(address, modem, nid, nmk, exemption == 1);
+    let edition = rules::edition_of(wide(configuration.edition));
+    let configured = rules::configure(address, modem, nid, nmk, exemption == 1, edition);
     configured.station
 }
 
