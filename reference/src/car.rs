@@ -1,6 +1,6 @@
 //! The car: state, kept reports, the five calls and the key query ("The car's end").
 
-use crate::messages::{Address, Body, Groups, Kind, Message, Nid, Nmk, RunId};
+use crate::messages::{Address, Body, Edition, Groups, Kind, Message, Nid, Nmk, RunId};
 use crate::refusal::Refusal;
 
 const ASKING: u32 = 200;
@@ -184,7 +184,7 @@ impl Car {
     pub fn receive(&mut self, frame: &[u8], output: &mut [u8]) -> Answer {
         let us = self.config()?.car;
         check_room(output)?;
-        let Message { destination, source, body } = Message::read(frame)?;
+        let Message { destination, source, body } = Message::read(frame, Edition::Iso)?;
         let run = run_for_a_car(&body)?;
         if destination != us || source == us {
             return Err(Refusal::NotOurs);
@@ -225,7 +225,7 @@ impl Car {
         if sounds == 0 {
             return Err(Refusal::NoSounds);
         }
-        let response = Body::AttenCharRsp { run: self.run }.send(us, station);
+        let response = Body::response(self.run).send(us, station);
         let is_kept = self.reports().any(|report| report.station == station);
         if is_kept || !matches!(self.state, State::Sounding { .. }) {
             return sent(response, output);
@@ -292,7 +292,7 @@ impl Car {
             }
             State::Requesting { retries: retries @ 1.., station, .. } => {
                 let state = State::Requesting { left: REQUESTING, retries: retries - 1, station };
-                (state, Body::MatchReq { run }.send(us, station))
+                (state, Body::match_req(run).send(us, station))
             }
             _ => {
                 self.state = State::Idle;
@@ -316,7 +316,7 @@ impl Car {
             return Ok(indication.alone());
         };
         let Accepted { written, .. } =
-            sent(Body::MatchReq { run: self.run }.send(config.car, station), output)?;
+            sent(Body::match_req(self.run).send(config.car, station), output)?;
         self.state = State::Requesting { left: REQUESTING, retries: RETRIES, station };
         Ok(Accepted { written, indication: Some(indication) })
     }
@@ -372,15 +372,15 @@ impl Indication {
 /// The frame of the 13 that follows so many: "three START, then ten SOUND with counts 9 down to 0".
 fn sounding_frame(sent: u8, run: RunId, random: [u8; 16]) -> Body {
     match sent {
-        0..=2 => Body::StartAttenChar { run },
-        _ => Body::MnbcSound { run, count: FRAMES - 1 - sent, random },
+        0..=2 => Body::start(run),
+        _ => Body::sound(run, FRAMES - 1 - sent, random),
     }
 }
 
 /// The run of a message to a car, where it has one; 19 for one that only a station receives.
 fn run_for_a_car(body: &Body) -> Result<Option<RunId>, Refusal> {
     match body {
-        Body::ParmCnf { run } | Body::AttenChar { run, .. } | Body::MatchCnf { run, .. } => {
+        Body::ParmCnf { run, .. } | Body::AttenChar { run, .. } | Body::MatchCnf { run, .. } => {
             Ok(Some(*run))
         }
         Body::ValidateCnf { .. } => Ok(None),
@@ -406,5 +406,5 @@ fn check_room(output: &[u8]) -> Checked {
 
 /// An accepted call with this frame, written from the output's first octet, and no indication.
 fn sent(message: Message, output: &mut [u8]) -> Answer {
-    Ok(Accepted { written: message.write(output)?, indication: None })
+    Ok(Accepted { written: message.write(Edition::Iso, output)?, indication: None })
 }

@@ -3,7 +3,7 @@
 use crate::car::{total, Car, Config, Indication, Report, State};
 use crate::car_script::Event;
 use crate::count::{end, short, Table, ENDS};
-use crate::messages::{Address, Body, Kind, Message};
+use crate::messages::{Address, Body, Edition, Kind, Message};
 use crate::refusal::{self, Refusal};
 use crate::script::Outcome;
 use std::fmt;
@@ -236,7 +236,7 @@ impl Counts {
             Event::LinkUp => "link up".into(),
             Event::Query => format!("key query in {state}"),
             Event::Frame { octets, .. } => {
-                let Ok(message) = Message::read(octets) else { return };
+                let Ok(message) = Message::read(octets, Edition::Iso) else { return };
                 self.table.reserved(octets);
                 format!("{} in {state}{}", short(message.body.kind()), repeated(&message, before))
             }
@@ -282,7 +282,7 @@ impl Counts {
             let what = kind.map_or("message to a station", short);
             return self.table.add("7 refused", &format!("15 {what}"));
         }
-        let Ok(message) = Message::read(octets) else { return };
+        let Ok(message) = Message::read(octets, Edition::Iso) else { return };
         let (state, kind) = (name(&before.state), short(message.body.kind()));
         let us = self.config.car;
         let what = match refusal {
@@ -325,9 +325,11 @@ impl Counts {
             (Event::Tick { reading, .. }, Refusal::Output) => {
                 (7, reading.wrapping_sub(before.reading) > 60_000)
             }
-            (Event::Frame { octets, .. }, Refusal::Output) => (1, Message::read(octets).is_err()),
+            (Event::Frame { octets, .. }, Refusal::Output) => {
+                (1, Message::read(octets, Edition::Iso).is_err())
+            }
             (Event::Frame { octets, .. }, _) => {
-                let message = Message::read(octets).ok()?;
+                let message = Message::read(octets, Edition::Iso).ok()?;
                 let (us, state) = (self.config.car, name(&before.state));
                 let to_us = message.destination == us && message.source != us;
                 let takes = |(kind, takers): &(Kind, &[&str])| {
@@ -470,7 +472,7 @@ fn repeated(message: &Message, before: &Car) -> &'static str {
 /// The run of a message to a car, where it has one.
 fn run(message: &Message) -> Option<[u8; 8]> {
     match message.body {
-        Body::ParmCnf { run } | Body::AttenChar { run, .. } | Body::MatchCnf { run, .. } => {
+        Body::ParmCnf { run, .. } | Body::AttenChar { run, .. } | Body::MatchCnf { run, .. } => {
             Some(run.0)
         }
         _ => None,

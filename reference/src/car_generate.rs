@@ -2,7 +2,7 @@
 
 use crate::car::{Car, Config, Network, State};
 use crate::car_script::{write_head, Event};
-use crate::messages::{Address, Body, Groups, Message, Nid, Nmk, RunId};
+use crate::messages::{Address, Body, Edition, Groups, Message, Nid, Nmk, RunId, Try};
 use crate::random::Random;
 use std::io::{self, Write};
 
@@ -247,7 +247,9 @@ impl Generator {
 
     /// What the stations on the line say to the car's frame; some of it gets lost.
     fn hear(&mut self, octets: &[u8]) {
-        let Ok(Message { destination, body, .. }) = Message::read(octets) else { return };
+        let Ok(Message { destination, body, .. }) = Message::read(octets, Edition::Iso) else {
+            return;
+        };
         let silence = self.mood.silence;
         for (place, Network { station, nid, nmk }) in self.stations.into_iter().enumerate() {
             let is_asked = station == destination;
@@ -255,21 +257,23 @@ impl Generator {
                 continue;
             }
             let reply = match body {
-                Body::ParmReq { run } if silence > Silence::Confirming => Body::ParmCnf { run },
+                Body::ParmReq { run } if silence > Silence::Confirming => {
+                    Body::ParmCnf { run, attempt: Try::Iso }
+                }
                 Body::MnbcSound { run, count, .. } if silence > Silence::Reporting => {
                     if count > 0 && !self.random.chance(self.mood.early) {
                         continue;
                     }
                     self.report(run)
                 }
-                Body::AttenCharRsp { run } if is_asked && self.random.chance(15) => {
+                Body::AttenCharRsp { run, .. } if is_asked && self.random.chance(15) => {
                     self.report(run)
                 }
-                Body::MatchReq { run } if is_asked && silence > Silence::Matching => {
-                    Body::MatchCnf { run, nid, nmk }
+                Body::MatchReq { run, .. } if is_asked && silence > Silence::Matching => {
+                    Body::match_cnf(run, nid, nmk)
                 }
-                Body::MatchReq { run } if !is_asked && self.random.chance(10) => {
-                    Body::MatchCnf { run, nid, nmk }
+                Body::MatchReq { run, .. } if !is_asked && self.random.chance(10) => {
+                    Body::match_cnf(run, nid, nmk)
                 }
                 _ => continue,
             };
@@ -295,7 +299,7 @@ impl Generator {
         let (least, greatest) = if any { (0, HIGHEST_TOTAL) } else { self.mood.totals };
         let wide = greatest.saturating_sub(least) as usize;
         let total = least + self.random.below(wide + 1) as u32;
-        Body::AttenChar { run, sounds, groups: self.groups(total.min(HIGHEST_TOTAL) as usize) }
+        Body::report(run, sounds, self.groups(total.min(HIGHEST_TOTAL) as usize))
     }
 
     /// Group values with that total: even ones, or shifted about.
@@ -320,7 +324,7 @@ impl Generator {
             _ => self.station_only_message(),
         };
         let ours = [self.config.car, self.station().station];
-        let octets = self.random.frame(&message, self.mood.damage, ours);
+        let octets = self.random.frame(&message, Edition::Iso, self.mood.damage, ours);
         Event::Frame { octets, room: self.room() }
     }
 
@@ -365,9 +369,9 @@ impl Generator {
             false => self.car.run,
         };
         let body = match kind {
-            0 => Body::ParmCnf { run },
+            0 => Body::ParmCnf { run, attempt: Try::Iso },
             1 => self.report(run),
-            2 => Body::MatchCnf { run, nid, nmk },
+            2 => Body::match_cnf(run, nid, nmk),
             _ => {
                 let result = self.random.below(5) as u8;
                 Body::ValidateCnf { toggles: self.random.next() as u8, result }
@@ -394,13 +398,13 @@ impl Generator {
         let (run, groups) = (self.car.run, [self.random.next() as u8; 58]);
         match self.random.below(8) {
             0 => Body::ParmReq { run }.broadcast(source),
-            1 => Body::StartAttenChar { run }.broadcast(source),
-            2 => Body::MnbcSound { run, count: 9, random: self.car.random }.broadcast(source),
-            3 => Body::AttenCharRsp { run }.send(source, destination),
-            4 => Body::MatchReq { run }.send(source, destination),
+            1 => Body::start(run).broadcast(source),
+            2 => Body::sound(run, 9, self.car.random).broadcast(source),
+            3 => Body::response(run).send(source, destination),
+            4 => Body::match_req(run).send(source, destination),
             5 => Body::ValidateReq { timer: 0 }.send(source, destination),
             6 => Body::ValidateReq { timer: self.random.next() as u8 }.broadcast(source),
-            _ => Body::AttenProfile { car: us, groups }.send(source, destination),
+            _ => Body::profile(us, groups).send(source, destination),
         }
     }
 }

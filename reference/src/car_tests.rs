@@ -2,7 +2,7 @@
 
 use crate::car::{Answer, Car, Config, Indication, Network, Report, State};
 use crate::car_script::{write_head, Event, Script};
-use crate::messages::{Address, Body, Message, Nid, Nmk, RunId};
+use crate::messages::{Address, Body, Edition, Message, Nid, Nmk, RunId, Try};
 use crate::refusal::Refusal;
 use crate::script::{self, write_entry};
 use crate::station::{self, Pilot, Station};
@@ -12,6 +12,7 @@ const fn address(last: u8) -> Address {
     Address([2, 0, 0, 0, 0, last])
 }
 
+const ISO: Edition = Edition::Iso;
 const US: Address = address(1);
 const STATION: Address = address(0xAA);
 const OTHER: Address = address(0xAB);
@@ -93,13 +94,13 @@ fn matches(station: u8, indication: Indication) -> Seen {
     Ok((match_octets(station), Some(indication)))
 }
 
-const CONFIRMATION: Body = Body::ParmCnf { run: RUN };
-const MATCH_CNF: Body = Body::MatchCnf { run: RUN, nid: NETWORK.nid, nmk: NETWORK.nmk };
+const CONFIRMATION: Body = Body::ParmCnf { run: RUN, attempt: Try::Iso };
+const MATCH_CNF: Body = Body::match_cnf(RUN, NETWORK.nid, NETWORK.nmk);
 
 const VALIDATED: Body = Body::ValidateCnf { toggles: 2, result: 2 };
 
 fn report(sounds: u8, value: u8) -> Body {
-    Body::AttenChar { run: RUN, sounds, groups: [value; 58] }
+    Body::report(RUN, sounds, [value; 58])
 }
 
 #[derive(Clone)]
@@ -145,7 +146,7 @@ impl Bench {
     }
 
     fn hear(&mut self, message: Message) -> Seen {
-        self.octets(&message.to_frame().unwrap())
+        self.octets(&message.to_frame(ISO).unwrap())
     }
 
     /// A message of the first station to us.
@@ -469,13 +470,13 @@ fn a_fresh_car() {
     // Idle takes no frame, the run that it has before the first start included.
     let mut bench = Bench(car);
     let run = RunId([0; 8]);
-    assert_eq!(bench.station(Body::ParmCnf { run }), Err(8));
+    assert_eq!(bench.station(Body::ParmCnf { run, attempt: Try::Iso }), Err(8));
     assert_eq!((bench.tick(60_000), bench.tick(60_001)), (NOTHING, Err(14)));
     // A run of zeros is one like any other.
     let start = |car: &mut Car, output: &mut [u8]| car.start(run, [0; 16], 5, output);
-    let request = Body::ParmReq { run }.broadcast(US).to_frame().unwrap();
+    let request = Body::ParmReq { run }.broadcast(US).to_frame(ISO).unwrap();
     assert_eq!(bench.call(85, start), sends(&request));
-    assert_eq!(bench.station(Body::ParmCnf { run }), NOTHING);
+    assert_eq!(bench.station(Body::ParmCnf { run, attempt: Try::Iso }), NOTHING);
 }
 
 #[test]
@@ -498,7 +499,7 @@ fn a_start_takes_an_empty_run() {
     let seen = bench.call(85, |car, output| car.start(run, RANDOM, 5, output));
     assert_eq!(seen, sends(&request));
     assert_eq!(bench.station(CONFIRMATION), Err(11));
-    assert_eq!(bench.station(Body::ParmCnf { run }), NOTHING);
+    assert_eq!(bench.station(Body::ParmCnf { run, attempt: Try::Iso }), NOTHING);
 }
 
 #[test]
@@ -508,45 +509,51 @@ fn a_start_takes_all_anew() {
     assert_eq!((bench.tick(1_200), bench.reports().len()), (NOT_FOUND, 1));
     let (run, random) = (WRONG_RUN, [7; 16]);
     let start = |car: &mut Car, output: &mut [u8]| car.start(run, random, 4_000_000_000, output);
-    let request = Body::ParmReq { run }.broadcast(US).to_frame().unwrap();
+    let request = Body::ParmReq { run }.broadcast(US).to_frame(ISO).unwrap();
     assert_eq!(bench.call(4_096, start), sends(&request));
     assert_eq!((bench.0.reading, bench.0.run, bench.0.random), (4_000_000_000, run, random));
     assert_eq!((bench.reports(), bench.0.state), (vec![], State::Asking { left: 200, retries: 2 }));
     assert_eq!(bench.station(CONFIRMATION), Err(11));
-    assert_eq!(bench.station(Body::ParmCnf { run }), NOTHING);
-    let first = Body::StartAttenChar { run }.broadcast(US).to_frame().unwrap();
+    assert_eq!(bench.station(Body::ParmCnf { run, attempt: Try::Iso }), NOTHING);
+    let first = Body::start(run).broadcast(US).to_frame(ISO).unwrap();
     assert_eq!(bench.tick(100), sends(&first));
     for _ in 0..2 {
         assert!(bench.tick(40).is_ok());
     }
-    let sound = Body::MnbcSound { run, count: 9, random }.broadcast(US);
-    assert_eq!(bench.tick(40), sends(&sound.to_frame().unwrap()));
+    let sound = Body::sound(run, 9, random).broadcast(US);
+    assert_eq!(bench.tick(40), sends(&sound.to_frame(ISO).unwrap()));
 }
 
 #[test]
 fn the_order_of_a_frame() {
-    let us_to = |body: Body, to| body.send(US, to).to_frame().unwrap();
+    let us_to = |body: Body, to| body.send(US, to).to_frame(ISO).unwrap();
     let mut bench = Bench::idle();
     // 15 before reading, reading before 19, 19 before 7, 7 before 8.
     for room in [0, 70, 84] {
         assert_eq!(bench.call(room, |car, output| car.receive(&[], output)), Err(15));
     }
-    let request = Body::MatchReq { run: WRONG_RUN };
+    let request = Body::match_req(WRONG_RUN);
     let mut damaged = us_to(request, US);
     assert_eq!(bench.octets(&damaged), Err(19));
     damaged[20] = 1;
     assert_eq!(bench.octets(&damaged), Err(6));
-    assert_eq!(bench.octets(&us_to(Body::ParmCnf { run: WRONG_RUN }, US)), Err(7));
-    assert_eq!(bench.station(Body::ParmCnf { run: WRONG_RUN }), Err(8));
+    assert_eq!(
+        bench.octets(&us_to(Body::ParmCnf { run: WRONG_RUN, attempt: Try::Iso }, US)),
+        Err(7)
+    );
+    assert_eq!(bench.station(Body::ParmCnf { run: WRONG_RUN, attempt: Try::Iso }), Err(8));
     // 8 before 11.
     let mut bench = Bench::requesting();
-    assert_eq!(bench.hear(Body::ParmCnf { run: WRONG_RUN }.send(OTHER, US)), Err(8));
+    assert_eq!(
+        bench.hear(Body::ParmCnf { run: WRONG_RUN, attempt: Try::Iso }.send(OTHER, US)),
+        Err(8)
+    );
     // 11 before 20, 20 before 18.
     let mut bench = Bench::sounding();
     for last in 0xA0..=0xA9 {
         assert!(bench.hear(report(1, 1).send(address(last), US)).is_ok());
     }
-    let none = Body::AttenChar { run: WRONG_RUN, sounds: 0, groups: [0; 58] };
+    let none = Body::report(WRONG_RUN, 0, [0; 58]);
     assert_eq!(bench.station(none), Err(11));
     assert_eq!(bench.station(report(0, 0)), Err(20));
     assert_eq!(bench.station(report(255, 0)), Err(18));
@@ -598,13 +605,13 @@ fn messages_that_only_a_station_receives() {
     for mut bench in Bench::all() {
         for from in [address(2), STATION, US] {
             assert_eq!(bench.hear(Body::ParmReq { run }.broadcast(from)), Err(19));
-            assert_eq!(bench.hear(Body::StartAttenChar { run }.broadcast(from)), Err(19));
-            let sound = Body::MnbcSound { run, count: 0, random: RANDOM };
+            assert_eq!(bench.hear(Body::start(run).broadcast(from)), Err(19));
+            let sound = Body::sound(run, 0, RANDOM);
             assert_eq!(bench.hear(sound.broadcast(from)), Err(19));
             for to in [US, STATION, address(2)] {
-                assert_eq!(bench.hear(Body::AttenCharRsp { run }.send(from, to)), Err(19));
-                assert_eq!(bench.hear(Body::MatchReq { run }.send(from, to)), Err(19));
-                let profile = Body::AttenProfile { car: US, groups };
+                assert_eq!(bench.hear(Body::response(run).send(from, to)), Err(19));
+                assert_eq!(bench.hear(Body::match_req(run).send(from, to)), Err(19));
+                let profile = Body::profile(US, groups);
                 assert_eq!(bench.hear(profile.send(from, to)), Err(19));
                 let first = Body::ValidateReq { timer: 0 };
                 assert_eq!(bench.hear(first.send(from, to)), Err(19));
@@ -628,10 +635,10 @@ fn frames_that_are_not_ours() {
 
 #[test]
 fn what_each_state_takes() {
-    let wrong = Body::MatchCnf { run: WRONG_RUN, nid: NETWORK.nid, nmk: NETWORK.nmk };
+    let wrong = Body::match_cnf(WRONG_RUN, NETWORK.nid, NETWORK.nmk);
     let wrong = [
-        Body::ParmCnf { run: WRONG_RUN },
-        Body::AttenChar { run: WRONG_RUN, sounds: 10, groups: [1; 58] },
+        Body::ParmCnf { run: WRONG_RUN, attempt: Try::Iso },
+        Body::report(WRONG_RUN, 10, [1; 58]),
         wrong,
     ];
     let taken = [
@@ -667,16 +674,16 @@ fn no_state_takes_a_validate_confirmation() {
             assert_eq!(bench.hear(body.send(OTHER, US)), Err(8));
             // 7 before 8, reading before both, 15 before reading.
             assert_eq!(bench.hear(body.send(STATION, OTHER)), Err(7));
-            let mut frame = body.send(STATION, US).to_frame().unwrap();
+            let mut frame = body.send(STATION, US).to_frame(ISO).unwrap();
             frame[19] = 1;
             assert_eq!(bench.octets(&frame), Err(6));
             assert_eq!(bench.call(84, |car, output| car.receive(&frame, output)), Err(15));
         }
-        let mut frame = VALIDATED.send(STATION, US).to_frame().unwrap();
+        let mut frame = VALIDATED.send(STATION, US).to_frame(ISO).unwrap();
         frame[21] = 5;
         assert_eq!(bench.octets(&frame), Err(6));
         // A request to one with a timer can't be read, so it isn't 19.
-        let mut frame = Body::ValidateReq { timer: 0 }.send(OTHER, US).to_frame().unwrap();
+        let mut frame = Body::ValidateReq { timer: 0 }.send(OTHER, US).to_frame(ISO).unwrap();
         frame[20] = 1;
         assert_eq!(bench.octets(&frame), Err(6));
     }
@@ -714,7 +721,7 @@ fn reports_stay_in_the_order_of_the_first_ones() {
 fn the_key_is_of_the_confirmation() {
     let mut bench = Bench::requesting();
     let (nid, nmk) = (Nid([0xFF, 0, 0, 0, 0, 0, 0]), Nmk([9; 16]));
-    assert_eq!(bench.station(Body::MatchCnf { run: RUN, nid, nmk }), KEY_GIVEN);
+    assert_eq!(bench.station(Body::match_cnf(RUN, nid, nmk)), KEY_GIVEN);
     assert_eq!(bench.key(), Ok(Network { station: STATION, nid, nmk }));
     // A second one comes too late.
     assert_eq!(bench.station(MATCH_CNF), Err(8));
@@ -1024,8 +1031,10 @@ fn differences_are_told_in_words() {
 /// run that the car has when it comes, and in Requesting, Joining and Matched from the chosen
 /// station; in Idle every frame call is one."
 fn is_foreign(car: &Car, us: Address, frame: &[u8]) -> bool {
-    let Ok(Message { destination, source, body }) = Message::read(frame) else { return true };
-    let (Body::ParmCnf { run } | Body::AttenChar { run, .. } | Body::MatchCnf { run, .. }) = body
+    let Ok(Message { destination, source, body }) = Message::read(frame, ISO) else { return true };
+    let (Body::ParmCnf { run, attempt: Try::Iso }
+    | Body::AttenChar { run, .. }
+    | Body::MatchCnf { run, .. }) = body
     else {
         return true;
     };
@@ -1108,7 +1117,14 @@ impl Bay {
         let (address, modem) = (address(last), Address([2, 0, 0, 0, 1, last]));
         let nid = Nid([last, 0, 0, 0, 0, 0, 0]);
         let nmk = Nmk([last; 16]);
-        let config = station::Config { station: address, modem, nid, nmk, exempt: false };
+        let config = station::Config {
+            station: address,
+            modem,
+            nid,
+            nmk,
+            exempt: false,
+            edition: Edition::Iso,
+        };
         let (mut station, answer) = Station::configure(config);
         assert_eq!(answer, Ok(()));
         assert!(station.change_pilot(Pilot::B, 0).is_ok());
@@ -1118,9 +1134,10 @@ impl Bay {
     /// The frames that the station answers to a frame; a sound is measured by its modem.
     fn hears(&mut self, frame: &[u8]) -> Vec<Vec<u8>> {
         let mut frames = vec![frame.to_vec()];
-        if let Ok(Message { source, body: Body::MnbcSound { .. }, .. }) = Message::read(frame) {
-            let profile = Body::AttenProfile { car: source, groups: [self.attenuation; 58] };
-            frames.push(profile.send(self.modem, self.address).to_frame().unwrap());
+        if let Ok(Message { source, body: Body::MnbcSound { .. }, .. }) = Message::read(frame, ISO)
+        {
+            let profile = Body::profile(source, [self.attenuation; 58]);
+            frames.push(profile.send(self.modem, self.address).to_frame(ISO).unwrap());
         }
         let answer = |frame: Vec<u8>| {
             let happened = script::Event::Frame { octets: frame, room: station::LEAST_OUTPUT };

@@ -1,5 +1,6 @@
 //! What a script reaches: how often each refusal, indication, state and accepted message occurs.
 
+use crate::edition_count::Editions;
 use crate::mean_count;
 use crate::messages::{Body, Kind, Message};
 use crate::refusal::{self, Refusal};
@@ -108,10 +109,12 @@ pub fn short(kind: Kind) -> &'static str {
 /// The station's table.
 #[derive(Clone)]
 pub struct Counts {
+    config: Config,
     table: Table,
     validations: Validations,
     spreads: Spreads,
     runs: Runs,
+    editions: Editions,
 }
 
 impl Counts {
@@ -150,10 +153,11 @@ impl Counts {
             row("7 passage", &reports(records));
         }
         let validations = Validations::new(config, &mut table);
-        let spreads = Spreads::new(&mut table);
+        let spreads = Spreads::new(config, &mut table);
         let runs = Runs::new(config, &mut table);
         mean_count::rows(&mut table);
-        Counts { table, validations, spreads, runs }
+        let editions = Editions::new(config, &mut table);
+        Counts { config, table, validations, spreads, runs, editions }
     }
 
     /// How many rows are reached.
@@ -209,6 +213,7 @@ impl Counts {
         self.spreads.event(&mut self.table, event, before, after, outcome);
         self.runs.event(&mut self.table, event, before, outcome);
         mean_count::event(&mut self.table, after, outcome);
+        self.editions.event(&mut self.table, event, before, after, outcome);
     }
 
     fn states(&mut self, after: &Station) {
@@ -238,12 +243,13 @@ impl Counts {
         let closed = before.state == State::Matching { admission: 0 };
         let passage = match event {
             Event::Frame { octets: frame, .. } => {
-                let Ok(Message { source, body, .. }) = Message::read(frame) else { return };
+                let read = Message::read(frame, self.config.edition);
+                let Ok(Message { source, body, .. }) = read else { return };
                 match body {
                     Body::ParmReq { .. } if before.record(source).is_none() => return,
                     Body::ParmReq { .. } if closed => "restart, admission closed".into(),
                     Body::ParmReq { .. } => "restart, admission open".into(),
-                    Body::AttenProfile { .. } if !octets.is_empty() => "ten profiles".into(),
+                    Body::AttenProfile { .. } if !octets.is_empty() => "closed by profiles".into(),
                     Body::MatchReq { .. } if before == after => "MATCH.CNF again".into(),
                     _ => return,
                 }
@@ -279,8 +285,8 @@ const STATES: [&str; 20] = [
 ];
 
 const PASSAGES: [&str; 5] = [
-    "restart, admission open", "restart, admission closed", "ten profiles", "MATCH.CNF again",
-    "the clock wraps",
+    "restart, admission open", "restart, admission closed", "closed by profiles",
+    "MATCH.CNF again", "the clock wraps",
 ];
 
 fn refused(number: u32) -> String {

@@ -1,7 +1,8 @@
 //! Random scripts from a seed, and the demo script.
 
 use crate::count::Counts;
-use crate::messages::{Address, Body, Message, Nid, Nmk, RunId};
+use crate::messages::{Address, Body, Edition, Groups, Id, Kind, Message, Nid, Nmk, RunId, Try};
+use crate::messages::{MOST_GROUPS, NO_ID};
 use crate::random::Random;
 use crate::script::{write_head, Event, MOST};
 use crate::station::{Config, Phase, Pilot, Record, State, Station, Step, LEAST_OUTPUT, RECORDS};
@@ -24,10 +25,10 @@ struct Mood {
 }
 
 /// Elapsed times at, just below and just above the rules' limits.
-const LIMITS: [u32; 29] = [
-    0, 1, 99, 100, 101, 199, 200, 201, 399, 400, 401, 599, 600, 601, 9_999, 10_000, 11_999, 12_000,
-    12_001, 25_599, 25_600, 49_999, 50_000, 59_999, 60_000, 60_001, 60_002, 0x8000_0000,
-    0xFFFF_FFFF,
+const LIMITS: [u32; 32] = [
+    0, 1, 99, 100, 101, 199, 200, 201, 399, 400, 401, 599, 600, 601, 999, 1_000, 1_001, 9_999,
+    10_000, 11_999, 12_000, 12_001, 25_599, 25_600, 49_999, 50_000, 59_999, 60_000, 60_001, 60_002,
+    0x8000_0000, 0xFFFF_FFFF,
 ];
 
 const READY: Phase = Phase::Validating(Step::Ready);
@@ -56,14 +57,19 @@ struct Generator {
     plan: VecDeque<Planned>,
     /// How many cars come at once, in the next larger waves.
     waves: Vec<usize>,
-    /// Whether a validation had more toggles than are counted; one in a script is enough.
-    many_done: bool,
+    /// How many profiles the next cars send that send some.
+    lengths: Vec<usize>,
+    /// How many episodes in a hundred have a validation with more toggles than are counted; one in
+    /// a script is enough.
+    many: usize,
 }
 
 /// An event that is planned.
 #[derive(Clone, Copy)]
 enum Planned {
     Frame(Message),
+    /// A START of the try that the car's record then has, mostly.
+    Start(Address, RunId),
     Tick(u32),
     /// A tick by the remaining time of the car's record and so much more, less one.
     End(Address, u32),
@@ -74,8 +80,11 @@ enum Planned {
     Query(Address),
 }
 
+/// A plan longer than this is a wave of arrivals, which goes on undisturbed.
+const WAVE: usize = 12;
+
 /// `cover` tries so many ways on, each of so many events at most.
-const TRIES: usize = 48;
+const TRIES: usize = 64;
 const STRETCH: usize = 64;
 
 /// `generate SEED EVENTS`.
@@ -114,7 +123,7 @@ pub fn session(seed: u64, events: u32) -> (Config, Vec<Event>) {
 /// `cover SEED EVENTS`: as `generate` with a good configuration, but of several ways on it takes
 /// the one that reaches most rows of the table.
 pub fn cover(seed: u64, events: u32, script: &mut impl Write) -> io::Result<()> {
-    let mut generator = Generator::new(Random::new(seed));
+    let mut generator = Generator { many: 30, ..Generator::new(Random::new(seed)) };
     let mut counts = Counts::new(generator.config);
     write_head(script, &generator.config, events)?;
     let mut left = usize::try_from(events).map_err(io::Error::other)?;
@@ -157,6 +166,7 @@ impl Generator {
             nid: Nid(nid),
             nmk: Nmk(random.octets()),
             exempt: random.chance(20),
+            edition: random.pick(&[Edition::Iso, Edition::Sae], Edition::Iso),
         };
         let cars = std::array::from_fn(|place| random.unicast(1 + place as u8));
         let (station, _) = Station::configure(config);
@@ -172,9 +182,9 @@ impl Generator {
             hasty: false,
             focus: 0,
         };
-        let (plan, waves) = (VecDeque::new(), Vec::new());
-        let (clock, many_done) = (0, false);
-        Generator { random, config, station, cars, mood, clock, plan, waves, many_done }
+        let (plan, waves, lengths) = (VecDeque::new(), Vec::new(), Vec::new());
+        let (clock, many) = (0, 8);
+        Generator { random, config, station, cars, mood, clock, plan, waves, lengths, many }
     }
 
     /// The configuration that goes into the script: now and then a bad one.
@@ -198,7 +208,9 @@ impl Generator {
         let share = match self.validating().map(|record| record.phase) {
             Some(Phase::Validating(Step::Counting { toggles, .. })) => match self.station.pilot {
                 _ if self.mood.many => {
-                    self.many_done = toggles == 255;
+                    if toggles == 255 {
+                        self.many = 0;
+                    }
                     self.mood.many = toggles < 255 || self.random.chance(75);
                     99
                 }
@@ -260,7 +272,7 @@ impl Generator {
         };
         if to.is_plugged() {
             let (few, late) = (self.random.chance(25), self.random.chance(30));
-            let many = !self.many_done && self.random.chance(10);
+            let many = self.random.chance(self.many);
             let doubts = self.random.pick(&[0, 30, 90, 90, 90], 20);
             let most = self.random.pick(&[8, 8, CARS], CARS);
             let cars = 1 + self.random.below(if few || late { 3 } else { most });
@@ -298,10 +310,11 @@ impl Generator {
         if !self.mood.hasty || self.is_late() {
             return None;
         }
-        let is_wave = self.plan.len() > 12;
+        let is_wave = self.plan.len() > WAVE;
         match self.random.below(100) {
             0..=7 if !is_wave => return None,
-            8..=17 => return Some(self.odd_frame()),
+            8..=10 => return Some(self.edition_frame()),
+            11..=17 => return Some(self.odd_frame()),
             18..=20 => return Some(self.query()),
             21..=45 if self.station.is_full() => return Some(self.odd_frame()),
             _ => {}
@@ -317,9 +330,14 @@ impl Generator {
         }
         Some(match self.plan.pop_front()? {
             Planned::Frame(message) => {
-                let octets = message.to_frame().unwrap_or_default();
+                let octets = message.to_frame(self.config.edition).unwrap_or_default();
                 let more = self.random.pick(&[0, 0, 0, 1, MOST - LEAST_OUTPUT], 0);
                 Event::Frame { octets, room: LEAST_OUTPUT + more }
+            }
+            Planned::Start(car, run) => {
+                let message = self.start(car, run).broadcast(car);
+                let octets = message.to_frame(self.config.edition).unwrap_or_default();
+                Event::Frame { octets, room: LEAST_OUTPUT }
             }
             Planned::Tick(elapsed) => self.tick_by(elapsed),
             Planned::End(car, more) => {
@@ -343,24 +361,49 @@ impl Generator {
         let is_small = most < 4;
         let responses = self.random.pick(&[100, 70, 40], 90);
         let (mut first, mut last) = (VecDeque::new(), Vec::new());
+        let mut is_later = false;
         for car in self.cars.into_iter().take(most) {
             let mut run = self.run();
-            first.extend(self.arrival(car, run, is_small));
-            if self.random.chance(if is_small { 10 } else { 1 }) {
+            let mut later = self.station.record(car).is_some();
+            first.extend(self.arrival(car, run, later, is_small));
+            if self.random.chance(self.restarts(is_small)) {
                 run = self.run();
-                let mut again = self.arrival(car, run, is_small);
+                later = true;
+                let mut again = self.arrival(car, run, later, is_small);
                 let place = self.random.pick(&[0, 1, 2], 1);
                 again.insert(place, Planned::Query(car));
                 first.extend(again);
                 first.push_back(Planned::Query(car));
             }
+            is_later |= later;
             if self.random.chance(responses) {
-                last.push(Planned::Frame(Body::AttenCharRsp { run }.send(car, station)));
+                last.push(Planned::Frame(self.response(run).send(car, station)));
             }
         }
-        first.push_back(Planned::Tick(600));
+        let car = self.cars[self.random.below(most)];
+        first.extend(match self.random.below(4) {
+            0 => vec![Planned::End(car, 0), Planned::End(car, 1)],
+            _ => vec![Planned::Tick(self.config.attempt(is_later).time())],
+        });
+        if !is_small && self.random.chance(70) {
+            // Some respond, the others get their report again, and once more.
+            for _ in 0..2 {
+                let some = last.len().saturating_sub(1 + self.random.below(2));
+                first.extend(last.drain(some..));
+                first.push_back(Planned::Tick(200));
+            }
+        }
         first.extend(last);
         first
+    }
+
+    /// How many cars in a hundred restart while they sound.
+    fn restarts(&self, is_small: bool) -> usize {
+        match (is_small, self.config.edition) {
+            (true, Edition::Iso) => 10,
+            (true, Edition::Sae) => 35,
+            (false, _) => 1,
+        }
     }
 
     /// How many cars come in the next larger wave: each number comes once before one comes again.
@@ -390,24 +433,84 @@ impl Generator {
     }
 
     /// A car's request, start, sounds and profiles; a long one may have them all.
-    fn arrival(&mut self, car: Address, run: RunId, is_long: bool) -> Vec<Planned> {
+    fn arrival(&mut self, car: Address, run: RunId, later: bool, is_long: bool) -> Vec<Planned> {
         let Config { station, modem, .. } = self.config;
-        let opening = [Body::ParmReq { run }, Body::StartAttenChar { run }];
-        let mut frames: Vec<Message> = opening.map(|body| body.broadcast(car)).into();
+        let request = Body::ParmReq { run }.broadcast(car);
+        let mut plan = vec![Planned::Frame(request), Planned::Start(car, run)];
+        let sounds = self.config.attempt(later).sounds();
         let (all, few) = (is_long && self.random.chance(5), self.random.pick(&[0, 0, 1], 0));
-        for count in 0..if all { 10 } else { few } {
-            let count = if all { count } else { self.random.below(12) as u8 };
-            let random = self.random.octets();
-            frames.push(Body::MnbcSound { run, count, random }.broadcast(car));
+        for count in 0..if all { sounds } else { few } {
+            let any = self.random.below(usize::from(sounds) + 2) as u8;
+            let sound = self.sound(run, if all { count } else { any });
+            plan.push(Planned::Frame(sound.broadcast(car)));
+            if self.random.chance(10) {
+                plan.push(Planned::Frame(sound.broadcast(car)));
+            }
         }
         let profiles = match (is_long, self.random.below(100)) {
-            (true, 0..=4) => 10,
-            (true, 5..=24) => 2 + self.random.below(8),
+            (true, 0..=4) => usize::from(sounds),
+            (true, 5..=24) => self.profiles(sounds),
+            (true, 25..=44) if later => self.profiles(sounds),
             _ => 1 + self.random.below(8) / 6,
         };
-        frames.extend((0..profiles).map(|_| self.profile(car).send(modem, station)));
-        let query = (profiles == 10).then_some(Planned::Query(car));
-        frames.into_iter().map(Planned::Frame).chain(query).collect()
+        // Many profiles have many groups, in which means are of every kind.
+        let few = self.group_count();
+        let count = if profiles > 3 { few.max(MOST_GROUPS - few) } else { few };
+        for _ in 0..profiles {
+            let profile = self.profile_of(car, count).send(modem, station);
+            plan.push(Planned::Frame(profile));
+        }
+        plan.extend((profiles == usize::from(sounds)).then_some(Planned::Query(car)));
+        plan
+    }
+
+    /// How many profiles a car sends, up to so many: each number comes once before one comes again.
+    fn profiles(&mut self, most: u8) -> usize {
+        let most = usize::from(most);
+        if self.lengths.iter().all(|length| *length > most) {
+            self.lengths.extend(2..=most);
+        }
+        let places: Vec<usize> =
+            (0..self.lengths.len()).filter(|place| self.lengths[*place] <= most).collect();
+        let place = self.random.pick(&places, 0);
+        self.lengths.swap_remove(place)
+    }
+
+    /// A START of the try that the car's record has, now and then of the other one.
+    fn start(&mut self, car: Address, run: RunId) -> Body {
+        let later = self.station.record(car).is_some_and(|record| record.later);
+        let is_other = self.plan.len() <= WAVE && self.random.chance(8);
+        Body::StartAttenChar { run, attempt: self.config.attempt(later != is_other) }
+    }
+
+    fn sound(&mut self, run: RunId, count: u8) -> Body {
+        Body::MnbcSound { run, count, random: self.random.octets(), sender_id: self.id() }
+    }
+
+    fn response(&mut self, run: RunId) -> Body {
+        Body::AttenCharRsp { run, source_id: self.id(), resp_id: self.id() }
+    }
+
+    fn match_req(&mut self, run: RunId) -> Body {
+        Body::MatchReq { run, car_id: self.id(), station_id: self.id() }
+    }
+
+    /// An identifier, in the ISO edition zeros.
+    fn id(&mut self) -> Id {
+        let any = self.random.octets();
+        match self.config.edition {
+            Edition::Iso => NO_ID,
+            Edition::Sae => self.random.pick(&[NO_ID, any, any], any),
+        }
+    }
+
+    /// A group count, in the ISO edition 58.
+    fn group_count(&mut self) -> u8 {
+        let any = 1 + self.random.below(usize::from(MOST_GROUPS)) as u8;
+        match self.config.edition {
+            Edition::Iso => MOST_GROUPS,
+            Edition::Sae => self.random.pick(&[1, 2, 57, MOST_GROUPS, MOST_GROUPS, any, any], any),
+        }
     }
 
     /// The cars in a phase, and their runs.
@@ -449,7 +552,10 @@ impl Generator {
         for _ in 0..self.random.below(5) {
             plan.push_back(Planned::Frame(match self.random.below(8) {
                 0 | 1 => FIRST.send(other, station),
-                2 if step > 1 => Body::MatchReq { run: self.any_run() }.send(car, station),
+                2 if step > 1 => {
+                    let run = self.any_run();
+                    self.match_req(run).send(car, station)
+                }
                 _ => self.message_of(car, run),
             }));
         }
@@ -457,9 +563,7 @@ impl Generator {
             return Some(plan);
         }
         plan.push_back(match self.random.below(8) {
-            0..=2 if other != car => {
-                Planned::Frame(Body::MatchReq { run: its_run }.send(other, station))
-            }
+            0..=2 if other != car => Planned::Frame(self.match_req(its_run).send(other, station)),
             _ => self.end_of(car, run),
         });
         Some(plan)
@@ -469,7 +573,7 @@ impl Generator {
     fn end(&mut self) -> Option<VecDeque<Planned>> {
         let cars = self.cars_in(|phase| matches!(phase, Phase::Reported { .. }));
         if let Some((car, run)) = cars.first() {
-            let response = Body::AttenCharRsp { run: *run }.send(*car, self.config.station);
+            let response = self.response(*run).send(*car, self.config.station);
             let response = Planned::Frame(response);
             return Some([self.random.pick(&[response, Planned::End(*car, 1)], response)].into());
         }
@@ -485,7 +589,7 @@ impl Generator {
         match self.random.below(12) {
             0 => Planned::Pilot(loss),
             1 | 2 => Planned::Terminate,
-            3 => Planned::Frame(Body::MatchReq { run }.send(car, self.config.station)),
+            3 => Planned::Frame(self.match_req(run).send(car, self.config.station)),
             4 => Planned::Frame(Body::ParmReq { run }.broadcast(car)),
             5 | 6 => Planned::End(car, 0),
             7 | 8 => Planned::End(car, 1),
@@ -512,13 +616,15 @@ impl Generator {
             3 => self.random.pick(&[FIRST.send(ours, station), FIRST.broadcast(ours)], first),
             10 => {
                 let any = self.car();
-                let car = self.random.pick(&[car, car, car, any, any, ours], any);
+                let validating = self.cars_in(|phase| matches!(phase, Phase::Validating(_)));
+                let (own, _) = self.random.pick(&validating, (car, RunId([0; 8])));
+                let car = self.random.pick(&[own, own, own, car, any, any, ours], any);
                 empty.broadcast(car)
             }
             4 => self.stray_message(),
             _ => self.car_only_message(),
         };
-        let mut octets = message.to_frame().unwrap_or_default();
+        let mut octets = message.to_frame(self.config.edition).unwrap_or_default();
         let length = octets.len();
         let wrong = self.random.pick(&[0, 1, 0xFF], 1);
         match self.random.below(20) {
@@ -537,6 +643,115 @@ impl Generator {
         let room =
             if self.random.chance(15) { self.random.below(LEAST_OUTPUT) } else { self.room() };
         Event::Frame { octets, room }
+    }
+
+    /// A frame by which the editions differ: an SAE frame, or one with a wrong try, group count or
+    /// length.
+    fn edition_frame(&mut self) -> Event {
+        let Config { station, modem, nid, nmk, .. } = self.config;
+        let mut cars = self.cars_in(|phase| matches!(phase, Phase::Asked | Phase::Sounding));
+        if cars.is_empty() || self.random.chance(20) {
+            cars = self.cars_in(|_| true);
+        }
+        let (car, run) = self.random.pick(&cars, (self.cars[0], RunId([7; 8])));
+        let attempt = self.random.pick(&[Try::First, Try::Later], Try::First);
+        let other = self.random.unicast(0xCC);
+        let any = 1 + self.random.below(usize::from(MOST_GROUPS)) as u8;
+        let count = self.random.pick(&[1, MOST_GROUPS, MOST_GROUPS, any, any, any], any);
+        let (one, two, groups) = (self.random.octets(), self.random.octets(), self.groups(count));
+        let ids = self.random.pick(&[[one, two], [one, NO_ID], [NO_ID, two]], [one, two]);
+        let [source_id, resp_id] = ids;
+        let [car_id, station_id] = ids;
+        let sounds = self.random.below(18) as u8;
+        let sounds = self.random.pick(&[7, 8, 15, 16, sounds, sounds], sounds);
+        let heard = self.station.record(car).map_or(0, |record| record.heard.trailing_zeros());
+        let sounds = if self.random.chance(30) { heard as u8 } else { sounds };
+        let random = self.random.octets();
+        let message = match self.random.below(12) {
+            0..=2 => Body::StartAttenChar { run, attempt }.broadcast(car),
+            3 => Body::ParmCnf { run, attempt }.send(other, car),
+            4 => Body::MnbcSound { run, count: sounds, random, sender_id: one }.broadcast(car),
+            5 | 6 => {
+                let report = Body::AttenChar { run, sounds, count, groups, source_id, resp_id };
+                report.send(other, car)
+            }
+            7 => Body::AttenCharRsp { run, source_id, resp_id }.send(car, station),
+            8 => Body::MatchReq { run, car_id, station_id }.send(car, station),
+            9 => Body::MatchCnf { run, nid, nmk, car_id, station_id }.send(other, car),
+            _ => Body::AttenProfile { car, count, groups }.send(modem, station),
+        };
+        let mut octets = message.to_frame(Edition::Sae).unwrap_or_default();
+        match message.body.kind() {
+            Kind::StartAttenChar => self.spoil_try(&mut octets, 19 + 2, car),
+            Kind::ParmCnf => self.spoil_try(&mut octets, 19 + 6, car),
+            Kind::AttenCharRsp if self.random.chance(40) => octets[19 + 50] = 1,
+            kind => {
+                if let Some(place) = kind.count_place() {
+                    self.spoil_count(&mut octets, place);
+                }
+            }
+        }
+        Event::Frame { octets, room: LEAST_OUTPUT }
+    }
+
+    /// Changes the pair, RESP_TYPE or FWD_STA that stand from a place on, or nothing.
+    fn spoil_try(&mut self, octets: &mut [u8], at: usize, car: Address) {
+        let iso = Try::Iso.octets();
+        match self.random.below(10) {
+            0 => {
+                octets[at..at + 3].copy_from_slice(&iso);
+                octets[at + 3..at + 9].copy_from_slice(&car.0);
+            }
+            1 => octets[at..at + 2].copy_from_slice(&iso[..2]),
+            2 => octets[at..at + 2].copy_from_slice(&[0x08, 0x0A]),
+            3 => octets[at..at + 2].copy_from_slice(&[0x10, 0x02]),
+            4 => octets[at + 2] = self.random.pick(&[1, 0x80], 1),
+            5 => octets[at + 3..at + 9].copy_from_slice(&car.0),
+            6 => octets[at + self.random.below(9)] ^= 1 << self.random.below(8),
+            _ => {}
+        }
+    }
+
+    /// Changes the group count, the length or the padding, or nothing.
+    fn spoil_count(&mut self, octets: &mut Vec<u8>, place: usize) {
+        let length = octets.len();
+        let any = MOST_GROUPS + 1 + self.random.below(197) as u8;
+        let wrong = self.random.pick(&[0, 0, MOST_GROUPS + 1, any, 0xFF], 0);
+        let group = self.random.pick(&[0, 6], 0);
+        match self.random.below(16) {
+            0 | 1 => octets[place] = wrong,
+            2 => octets.truncate(place - self.random.pick(&[0, 1, 6], 0)),
+            3 | 4 => {
+                octets[place] = wrong;
+                let more = self.random.below(length - place);
+                octets.truncate(place + 1 + self.random.pick(&[0, 0, more], 0));
+            }
+            5 => octets.truncate(place + 1 + self.random.below(length - place)),
+            6 => octets.push(0),
+            7 => {
+                octets[place] = wrong;
+                octets[group] |= 1;
+            }
+            8 => {
+                octets[place] = wrong;
+                octets.resize(MOST.min(length + 70), 0);
+            }
+            9 => {
+                octets.truncate(place + 1);
+                octets[group] |= 1;
+            }
+            10 => octets[place] = self.random.pick(&[1, 2, MOST_GROUPS - 1, MOST_GROUPS], 1),
+            11 | 12 => {
+                let shortest =
+                    Kind::of(octets).map_or(length, |kind| kind.shortest_with(octets[place]));
+                let padding = 1 + self.random.below(255) as u8;
+                octets.iter_mut().skip(shortest).for_each(|octet| *octet = padding);
+                if self.random.chance(50) {
+                    octets.truncate(shortest + self.random.below(length + 1 - shortest));
+                }
+            }
+            _ => {}
+        }
     }
 
     /// A pilot change while a car validates: mostly B-C-B, now and then the same state again, D
@@ -643,8 +858,8 @@ impl Generator {
             86..=89 => self.stray_message(),
             _ => self.car_only_message(),
         };
-        let Config { station, modem, .. } = self.config;
-        let octets = self.random.frame(&message, self.mood.damage, [station, modem]);
+        let Config { station, modem, edition, .. } = self.config;
+        let octets = self.random.frame(&message, edition, self.mood.damage, [station, modem]);
         Event::Frame { octets, room: self.room() }
     }
 
@@ -653,9 +868,12 @@ impl Generator {
         let (station, car) = (self.config.station, self.car());
         if let State::Joining { car: joining, run, .. } = self.station.state {
             match self.random.below(15) {
-                0 => return Body::MatchReq { run }.send(car, station),
-                1 => return Body::MatchReq { run: self.any_run() }.send(joining, station),
-                2..=6 => return Body::MatchReq { run }.send(joining, station),
+                0 => return self.match_req(run).send(car, station),
+                1 => {
+                    let run = self.any_run();
+                    return self.match_req(run).send(joining, station);
+                }
+                2..=6 => return self.match_req(run).send(joining, station),
                 _ => {}
             }
         }
@@ -671,25 +889,28 @@ impl Generator {
             return Body::ParmReq { run: self.any_run() }.broadcast(car);
         };
         let (run, heard, profiles) = (record.run, record.heard, u32::from(record.profiles));
+        let later = record.later;
         match (record.phase, self.random.below(100)) {
             (Phase::Asked, 0..=84) | (Phase::Sounding, 0..=4) => {
-                Body::StartAttenChar { run }.broadcast(car)
+                self.start(car, run).broadcast(car)
             }
             (Phase::Sounding, 5..=94) => {
-                let unheard: Vec<u8> = (0..10).filter(|count| heard & (1 << count) == 0).collect();
+                let sounds = self.config.attempt(later).sounds();
+                let unheard: Vec<u8> =
+                    (0..sounds).filter(|count| heard & (1 << count) == 0).collect();
                 if heard.count_ones() > profiles || unheard.is_empty() {
                     return self.profile(car).send(self.config.modem, station);
                 }
                 let count = self.random.pick(&unheard, 0);
-                Body::MnbcSound { run, count, random: self.random.octets() }.broadcast(car)
+                self.sound(run, count).broadcast(car)
             }
-            (Phase::Reported { .. }, 0..=64) => Body::AttenCharRsp { run }.send(car, station),
+            (Phase::Reported { .. }, 0..=64) => self.response(run).send(car, station),
             (Phase::Awaiting, roll) if roll < self.matches() => {
-                Body::MatchReq { run }.send(car, station)
+                self.match_req(run).send(car, station)
             }
             (Phase::Awaiting, roll) if roll >= 100 - self.mood.doubts => FIRST.send(car, station),
             (READY, 0..=39) => self.second().broadcast(car),
-            (SUCCESS, roll) if roll < self.matches() => Body::MatchReq { run }.send(car, station),
+            (SUCCESS, roll) if roll < self.matches() => self.match_req(run).send(car, station),
             (Phase::Validating(_), 0..=84) => self.message_of(car, run),
             _ => self.any_message(),
         }
@@ -715,14 +936,28 @@ impl Generator {
         Body::ValidateReq { timer }
     }
 
+    /// A profile, mostly with the group count of the car's record.
     fn profile(&mut self, car: Address) -> Body {
+        let fixed = self.station.record(car).and_then(|record| record.groups);
+        let any = self.group_count();
+        let count = if self.random.chance(8) { any } else { fixed.unwrap_or(any) };
+        self.profile_of(car, count)
+    }
+
+    fn profile_of(&mut self, car: Address, count: u8) -> Body {
+        Body::AttenProfile { car, count, groups: self.groups(count) }
+    }
+
+    /// Values of so many groups.
+    fn groups(&mut self, count: u8) -> Groups {
         let flat = self.random.next() as u8;
-        let groups = match self.random.below(4) {
-            0 => [self.random.pick(&[0, 1, 0xFE, 0xFF], flat); 58],
-            1 => [flat; 58],
+        let mut groups = match self.random.below(4) {
+            0 => [self.random.pick(&[0, 1, 0xFE, 0xFF], flat); MOST_GROUPS as usize],
+            1 => [flat; MOST_GROUPS as usize],
             _ => self.random.octets(),
         };
-        Body::AttenProfile { car, groups }
+        groups[usize::from(count)..].fill(0);
+        groups
     }
 
     /// Any message to the station, of the car's run or now and then another.
@@ -741,16 +976,16 @@ impl Generator {
         match self.random.below(13) {
             0 => Body::ParmReq { run }.broadcast(car),
             12 => Body::ParmReq { run: self.any_run() }.broadcast(car),
-            1 | 2 => Body::StartAttenChar { run }.broadcast(car),
+            1 | 2 => self.start(car, run).broadcast(car),
             3 | 4 => {
                 let count = self.random.pick(&[0, 1, 5, 8, 9, 10, 11, 15, 16, 255], 9);
-                Body::MnbcSound { run, count, random: self.random.octets() }.broadcast(car)
+                self.sound(run, count).broadcast(car)
             }
             5 | 6 => self.profile(car).send(self.config.modem, station),
-            7 | 8 => Body::AttenCharRsp { run }.send(car, station),
+            7 | 8 => self.response(run).send(car, station),
             9 => FIRST.send(car, station),
             10 => self.second().broadcast(car),
-            _ => Body::MatchReq { run }.send(car, station),
+            _ => self.match_req(run).send(car, station),
         }
     }
 
@@ -762,17 +997,17 @@ impl Generator {
         let wrong = self.random.pick(&[other, car, station], other);
         let wrong_station = self.random.pick(&[other, car, modem], other);
         match self.random.below(11) {
-            0 => Body::AttenCharRsp { run }.send(car, other),
-            1 => Body::MatchReq { run }.send(car, wrong),
+            0 => self.response(run).send(car, other),
+            1 => self.match_req(run).send(car, wrong),
             2 => self.profile(car).send(modem, other),
             3 => self.profile(car).send(wrong, station),
             4 => self.profile(ours).send(modem, station),
             5 => Body::ParmReq { run }.broadcast(ours),
-            6 => Body::MatchReq { run }.send(ours, station),
+            6 => self.match_req(run).send(ours, station),
             7 => FIRST.send(car, wrong_station),
             8 => FIRST.send(ours, station),
             9 => self.second().broadcast(ours),
-            _ => Body::MatchReq { run }.send(car, modem),
+            _ => self.match_req(run).send(car, modem),
         }
     }
 
@@ -780,12 +1015,17 @@ impl Generator {
         let Config { station, nid, nmk, .. } = self.config;
         let (car, other) = (self.car(), self.random.unicast(0xCC));
         let (run, sounds) = (RunId(self.random.octets()), self.random.next() as u8);
-        let result = self.random.below(5) as u8;
+        let (result, later) = (self.random.below(5) as u8, self.random.chance(50));
         let body = match self.random.below(5) {
-            0 => Body::ParmCnf { run },
-            1 => Body::AttenChar { run, sounds, groups: self.random.octets() },
+            0 => Body::ParmCnf { run, attempt: self.config.attempt(later) },
+            1 => {
+                let count = self.group_count();
+                let groups = self.groups(count);
+                let (source_id, resp_id) = (self.id(), self.id());
+                Body::AttenChar { run, sounds, count, groups, source_id, resp_id }
+            }
             2 | 3 => Body::ValidateCnf { toggles: self.random.next() as u8, result },
-            _ => Body::MatchCnf { run, nid, nmk },
+            _ => Body::MatchCnf { run, nid, nmk, car_id: self.id(), station_id: self.id() },
         };
         body.send(
             self.random.pick(&[station, other], other),
@@ -805,7 +1045,7 @@ pub fn demo(script: &mut impl Write) -> io::Result<()> {
     let mut clock = 1000;
     let mut pass = |messages: &[Message], pilot: Option<Pilot>, time: u32| {
         for message in messages {
-            let octets = message.to_frame().unwrap_or_default();
+            let octets = message.to_frame(Edition::Iso).unwrap_or_default();
             events.push(Event::Frame { octets, room: LEAST_OUTPUT });
         }
         events.extend(pilot.map(|to| Event::Pilot { to, reading: clock }));
@@ -817,22 +1057,19 @@ pub fn demo(script: &mut impl Write) -> io::Result<()> {
         Body::ParmReq { run: its_run }.broadcast(neighbour),
         Body::ParmReq { run }.broadcast(car),
     ]);
-    hear(&[
-        Body::StartAttenChar { run }.broadcast(car),
-        Body::StartAttenChar { run: its_run }.broadcast(neighbour),
-    ]);
+    hear(&[Body::start(run).broadcast(car), Body::start(its_run).broadcast(neighbour)]);
     for count in (0..10).rev() {
         let (near, far, random) = ([12 + count % 2; 58], [55 + count % 3; 58], [count; 16]);
         hear(&[
-            Body::MnbcSound { run, count, random }.broadcast(car),
-            Body::AttenProfile { car, groups: near }.send(modem, station),
-            Body::MnbcSound { run: its_run, count, random }.broadcast(neighbour),
-            Body::AttenProfile { car: neighbour, groups: far }.send(modem, station),
+            Body::sound(run, count, random).broadcast(car),
+            Body::profile(car, near).send(modem, station),
+            Body::sound(its_run, count, random).broadcast(neighbour),
+            Body::profile(neighbour, far).send(modem, station),
         ]);
     }
     hear(&[
-        Body::AttenCharRsp { run }.send(car, station),
-        Body::AttenCharRsp { run: its_run }.send(neighbour, station),
+        Body::response(run).send(car, station),
+        Body::response(its_run).send(neighbour, station),
     ]);
     hear(&[FIRST.send(neighbour, next_station), FIRST.send(car, station)]);
     let second = Body::ValidateReq { timer: 4 };
@@ -843,12 +1080,12 @@ pub fn demo(script: &mut impl Write) -> io::Result<()> {
     pass(&[], None, 80);
     let mut hear = |messages: &[Message]| pass(messages, None, 20);
     hear(&[
-        Body::MatchReq { run: its_run }.send(neighbour, next_station),
-        Body::MatchReq { run }.send(car, station),
+        Body::match_req(its_run).send(neighbour, next_station),
+        Body::match_req(run).send(car, station),
     ]);
     events.push(Event::LinkUp);
     let (nid, nmk) = (Nid([1, 2, 3, 4, 5, 6, 7]), Nmk([0x4B; 16]));
-    let config = Config { station, modem, nid, nmk, exempt: false };
+    let config = Config { station, modem, nid, nmk, exempt: false, edition: Edition::Iso };
     write_head(script, &config, u32::try_from(events.len()).map_err(io::Error::other)?)?;
     events.iter().try_for_each(|event| event.write(script))
 }

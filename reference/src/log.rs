@@ -1,14 +1,14 @@
 //! The log of a session: its reader and writer, and the causes for which one is refused ("The
 //! log").
 
-use crate::messages::{Address, Nid, Nmk};
+use crate::messages::{Address, Edition, Nid, Nmk};
 use crate::station::Config;
 
 /// A log is at most so long.
 pub const LONGEST: usize = 65_536;
 const HEAD: usize = 20;
 /// Two addresses, NID, NMK, and a number for each later setting.
-const CONFIGURATION: usize = 6 + 6 + 7 + 16 + 4;
+const CONFIGURATION: usize = 6 + 6 + 7 + 16 + 2 * 4;
 /// Where the configuration ends.
 pub const EVENTS: usize = HEAD + CONFIGURATION;
 /// The three numbers of an event or a reply, before its octets.
@@ -52,6 +52,8 @@ pub struct Settings {
     pub nmk: [u8; 16],
     /// Whether validation is not required: 1 or 0.
     pub exempt: u32,
+    /// 0 for ISO, 1 for SAE.
+    pub edition: u32,
 }
 
 /// An event without its octets.
@@ -88,6 +90,7 @@ impl Settings {
             nid: high_first(&reversed(config.nid.0)),
             nmk: config.nmk.0,
             exempt: u32::from(config.exempt),
+            edition: u32::from(config.edition == Edition::Sae),
         }
     }
 
@@ -104,6 +107,7 @@ impl Settings {
             nid: Nid(nid),
             nmk: Nmk(self.nmk),
             exempt: self.exempt == 1,
+            edition: if self.edition == 1 { Edition::Sae } else { Edition::Iso },
         }
     }
 
@@ -111,7 +115,7 @@ impl Settings {
     fn check(&self) -> Checked {
         let narrow = self.station >> 48 == 0 && self.modem >> 48 == 0 && self.nid >> 56 == 0;
         check(narrow, Cause::Wide)?;
-        check(self.exempt <= 1, Cause::Setting)
+        check(self.exempt <= 1 && self.edition <= 1, Cause::Setting)
     }
 }
 
@@ -238,7 +242,7 @@ impl Log {
 
     /// The log's octets, whatever is wrong with it.
     pub fn to_octets(&self) -> Vec<u8> {
-        let Settings { station, modem, nid, nmk, exempt } = self.settings;
+        let Settings { station, modem, nid, nmk, exempt, edition } = self.settings;
         let events = self.events().map(|(Event { kind, reading, length }, octets)| {
             [&numbers([kind, reading, length])[..], octets].concat()
         });
@@ -256,7 +260,7 @@ impl Log {
             &modem.to_be_bytes()[2..],
             &nid.to_le_bytes()[..7],
             &nmk,
-            &numbers([exempt]),
+            &numbers([exempt, edition]),
             &events,
             &replies,
         ]
@@ -326,6 +330,7 @@ fn settings(log: &[u8]) -> Option<Settings> {
         nid: high_first(&reversed(*nid)),
         nmk: *nmk,
         exempt: number(rest, 0)?,
+        edition: number(rest, 4)?,
     })
 }
 

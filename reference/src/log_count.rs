@@ -10,14 +10,14 @@ const CAUSE: &str = "1 cause";
 const ORDER: &str = "2 order";
 const REPLAY: &str = "3 replay";
 
-const CAUSES: [&str; 41] = [
+const CAUSES: [&str; 42] = [
     " 1: one octet too long", " 1: longer", " 2: no octet", " 2: 1 to 18 octets", " 2: 19 octets",
     " 3: more replies", " 3: fewer replies", " 4: too low", " 4: too high", " 5: too low",
     " 5: too high", " 5: nowhere, a head is cut", " 5: nowhere, octets are cut",
     " 5: nowhere, a length that would wrap", " 6: total too low", " 6: total too high",
     " 6: octets behind the replies", " 6: nowhere, a head is cut", " 6: nowhere, octets are cut",
-    " 6: nowhere, a length that would wrap", " 8: validation not required", " 9: kind 5",
-    " 9: kind over 5", "10: frame", "10: terminate", "10: link up", "11: tick",
+    " 6: nowhere, a length that would wrap", " 8: validation not required", " 8: edition",
+    " 9: kind 5", " 9: kind over 5", "10: frame", "10: terminate", "10: link up", "11: tick",
     "11: pilot, no octet", "11: pilot, more octets", "11: terminate", "11: link up", "12: pilot 6",
     "12: pilot over 6", "13: over 2, accepted", "13: over 2, refused", "13: 1 or 2, refused", "14",
     "at the first event", "at a later event", "at the first reply", "at a later reply",
@@ -116,6 +116,7 @@ impl Counts {
         for second in rest {
             let same = (first.list, first.place) == (second.list, second.place);
             match (first.list, second.list) {
+                (0, 0) => {}
                 (0, 1) => add(" 8 before an event's"),
                 (0, _) => add(" 8 before a reply's"),
                 _ if same => add(&format!("{:>2} before {:>2}", first.cause, second.cause)),
@@ -244,8 +245,11 @@ fn fields(log: &[u8]) -> Vec<Field> {
         wrong.push(Field { list, place, cause, way });
     };
     let at = |at: usize| number(log, at).unwrap_or(0);
-    if at(EVENTS - 4) > 1 {
+    if at(EVENTS - 8) > 1 {
         add(0, 0, 8, "validation not required");
+    }
+    if at(EVENTS - 4) > 1 {
+        add(0, 0, 8, "edition");
     }
     let mut start = EVENTS;
     for place in 0..at(0) as usize {

@@ -11,6 +11,7 @@ const SETTINGS: Settings = Settings {
     nid: 0x3F06_0504_0302_01,
     nmk: [0x4B; 16],
     exempt: 0,
+    edition: 0,
 };
 
 /// Octets as text; `5*EE` are five octets EE.
@@ -64,8 +65,12 @@ fn session() -> Log {
     )
 }
 
-const SESSION: &str = "05 00 00 00 05 00 00 00 3B 00 00 00 B4 00 00 00 2C 01 00 00 \
-    02 00 00 00 00 AA 02 00 00 00 00 BB 01 02 03 04 05 06 3F 16*4B 00 00 00 00 \
+/// Where its replies start, and where it ends.
+const REPLIES: usize = EVENTS + 121;
+const TOTAL: usize = REPLIES + 120;
+
+const SESSION: &str = "05 00 00 00 05 00 00 00 3F 00 00 00 B8 00 00 00 30 01 00 00 \
+    02 00 00 00 00 AA 02 00 00 00 00 BB 01 02 03 04 05 06 3F 16*4B 8*00 \
     02 00 00 00 07 00 00 00 01 00 00 00 01 \
     00 00 00 00 00 00 00 00 3C 00 00 00 \
     6*FF 02 00 00 00 00 01 88 E1 01 64 60 00 00 00 00 01 02 03 04 05 06 07 08 31*00 \
@@ -115,8 +120,8 @@ fn a_log_by_its_octets() {
     assert_eq!(replay(&octets(SESSION)), Found::NoDifference);
     let empty = log(&[], &[]);
     let whole = octets(
-        "8*00 3B 00 00 00 3B 00 00 00 3B 00 00 00 02 00 00 00 00 AA 02 00 00 00 00 BB 01 02 03 04 \
-         05 06 3F 16*4B 00 00 00 00",
+        "8*00 3F 00 00 00 3F 00 00 00 3F 00 00 00 02 00 00 00 00 AA 02 00 00 00 00 BB 01 02 03 04 \
+         05 06 3F 16*4B 8*00",
     );
     assert_eq!((write(&empty), read(&whole)), (Ok(whole.clone()), Ok(empty)));
     assert_eq!(replay(&whole).number(), 0);
@@ -134,7 +139,7 @@ fn causes_of_reading() {
     for length in 0..whole.len() {
         let cause = match length {
             0..=19 => 2,
-            20..=179 => 5,
+            _ if length < REPLIES => 5,
             _ => 6,
         };
         assert_eq!(read(&whole[..length]), Err(cause), "{length}");
@@ -143,19 +148,24 @@ fn causes_of_reading() {
     for number in [0, 4, 6, 0x105, u32::MAX] {
         assert_eq!((read(&with(4, number)), read(&with(0, number))), (Err(3), Err(3)));
     }
-    for number in [0, 58, 60, 0x3B00, 0x8000_003B] {
-        assert_eq!(read(&with(8, number)), Err(4));
-    }
-    for number in [0, 59, 179, 181, 0x1_00B4, u32::MAX] {
-        assert_eq!(read(&with(12, number)), Err(5));
-    }
-    for number in [0, 299, 301, 0x1_012C, u32::MAX] {
-        assert_eq!(read(&with(16, number)), Err(6));
+    for (at, right, cause) in [(8, EVENTS, 4), (12, REPLIES, 5), (16, TOTAL, 6)] {
+        let right = right as u32;
+        for number in [0, right - 1, right + 1, right << 8, right | 1 << 16, right | 1 << 31] {
+            assert_eq!(read(&with(at, number)), Err(cause));
+        }
+        assert_eq!(read(&with(at, u32::MAX)), Err(cause));
     }
     // Lengths of events, then of replies; the last event could take the replies' octets.
-    for (at, cause) in
-        [(67, 5), (80, 5), (152, 5), (164, 5), (176, 5), (188, 6), (200, 6), (296, 6)]
-    {
+    for (at, cause) in [
+        (EVENTS + 8, 5),
+        (EVENTS + 21, 5),
+        (EVENTS + 93, 5),
+        (EVENTS + 105, 5),
+        (EVENTS + 117, 5),
+        (EVENTS + 129, 6),
+        (EVENTS + 141, 6),
+        (EVENTS + 237, 6),
+    ] {
         let old = u32::from_le_bytes(whole[at..at + 4].try_into().unwrap());
         for more in [1, 2, 12, 0x7FFF_FFFF, u32::MAX - 60] {
             assert_eq!(read(&with(at, old + more)), Err(cause), "{at}");
@@ -177,39 +187,40 @@ fn causes_of_reading() {
     assert_eq!(read(&longer), Err(6));
     // 8.
     for number in [2, 0x100, 0x8000_0000, u32::MAX] {
-        assert_eq!(read(&with(55, number)), Err(8));
+        assert_eq!((read(&with(55, number)), read(&with(59, number))), (Err(8), Err(8)));
     }
     assert_eq!(read(&with(55, 1)).map(|log| log.settings.exempt), Ok(1));
+    assert_eq!(read(&with(59, 1)).map(|log| log.settings.edition), Ok(1));
     // 9 to 14 in single fields.
     for (at, number, cause) in [
-        (59, 5, 9),
-        (59, 0x102, 9),
-        (144, u32::MAX, 9),
-        (76, 1, 10),
-        (160, 0x100, 10),
-        (172, u32::MAX, 10),
-        (59, 0, 10),
-        (59, 1, 11),
-        (144, 2, 11),
-        (184, 3, 13),
-        (184, u32::MAX, 13),
-        (192, 0, 0),
-        (280, 1, 13),
-        (280, 3, 13),
-        (292, 3, 13),
-        (192, 1, 14),
-        (192, u32::MAX, 14),
+        (EVENTS, 5, 9),
+        (EVENTS, 0x102, 9),
+        (EVENTS + 85, u32::MAX, 9),
+        (EVENTS + 17, 1, 10),
+        (EVENTS + 101, 0x100, 10),
+        (EVENTS + 113, u32::MAX, 10),
+        (EVENTS, 0, 10),
+        (EVENTS, 1, 11),
+        (EVENTS + 85, 2, 11),
+        (EVENTS + 125, 3, 13),
+        (EVENTS + 125, u32::MAX, 13),
+        (EVENTS + 133, 0, 0),
+        (EVENTS + 221, 1, 13),
+        (EVENTS + 221, 3, 13),
+        (EVENTS + 233, 3, 13),
+        (EVENTS + 133, 1, 14),
+        (EVENTS + 133, u32::MAX, 14),
     ] {
         let cause = if cause == 0 { Ok(()) } else { Err(cause) };
         assert_eq!(read(&with(at, number)).map(|_| ()), cause, "{at}, {number}");
     }
     for state in 0..=255 {
         let mut log = octets(SESSION);
-        log[71] = state;
+        log[EVENTS + 12] = state;
         assert_eq!(read(&log).map(|_| ()), if state <= 5 { Ok(()) } else { Err(12) });
     }
     // An unknown refusal is no wrong field.
-    assert!(read(&with(276, 99)).is_ok() && read(&with(276, u32::MAX)).is_ok());
+    assert!(read(&with(EVENTS + 217, 99)).is_ok() && read(&with(EVENTS + 217, u32::MAX)).is_ok());
 }
 
 #[test]
@@ -279,12 +290,13 @@ fn causes_of_writing() {
         (log.settings.station, log.settings.modem) = (0, wide);
         assert_eq!(write(&log), Err(7));
     }
-    for (nid, written) in [(1 << 56, Err(7)), (u64::MAX, Err(7)), ((1 << 56) - 1, Ok(300))] {
+    for (nid, written) in [(1 << 56, Err(7)), (u64::MAX, Err(7)), ((1 << 56) - 1, Ok(TOTAL))] {
         let mut log = session();
         log.settings.nid = nid;
         assert_eq!(write(&log).map(|log| log.len()), written);
     }
     assert_eq!(set(|log| log.settings.exempt = 2), Err(8));
+    assert_eq!(set(|log| log.settings.edition = 2), Err(8));
     // A bad configuration is no wrong field.
     let bad = |log: &mut Log| (log.settings.station, log.settings.modem) = (0, (1 << 48) - 1);
     assert!(set(bad).is_ok());
@@ -314,9 +326,9 @@ fn causes_of_writing() {
     };
     assert_eq!(set(later), Err(11));
     // 15, last of all.
-    let mut output = vec![0xEE; 299];
+    let mut output = vec![0xEE; TOTAL - 1];
     assert_eq!(session().write(&mut output), Err(Cause::Output));
-    assert_eq!(output, vec![0xEE; 299]);
+    assert_eq!(output, vec![0xEE; TOTAL - 1]);
     let mut wrong = session();
     wrong.replies[4].indication = 3;
     assert_eq!(wrong.write(&mut []), Err(Cause::Indication));
@@ -347,14 +359,19 @@ fn replays_by_their_number() {
     assert_eq!(replay(&whole[..200]).number(), -6);
     assert_eq!(replay(&[]).number(), -2);
     // Refusal, indication and frames of each event.
-    for (at, octet, event) in
-        [(276, 9, 4), (180, 15, 1), (292, 0, 5), (184, 2, 1), (204, 3, 2), (255, 0xEE, 2)]
-    {
+    for (at, octet, event) in [
+        (EVENTS + 217, 9, 4),
+        (EVENTS + 121, 15, 1),
+        (EVENTS + 233, 0, 5),
+        (EVENTS + 125, 2, 1),
+        (EVENTS + 145, 3, 2),
+        (EVENTS + 196, 0xEE, 2),
+    ] {
         let mut changed = whole.clone();
         changed[at] = octet;
         assert_eq!(replay(&changed).number(), event);
         // The first of two.
-        changed[296 - 4] = 2;
+        changed[TOTAL - 8] = 2;
         assert_eq!(replay(&changed).number(), event);
     }
     // More frames, and fewer.
@@ -367,10 +384,10 @@ fn replays_by_their_number() {
     changed.frames.clear();
     assert_eq!(replay(&changed.to_octets()).number(), 2);
     // The station takes its reading from the log, and its configuration.
-    assert_eq!(replay(&with(148, 406)).number(), 0);
-    assert_eq!(replay(&with(148, 60_007)).number(), 3);
-    assert_eq!(replay(&with(148, 60_008)).number(), 3);
-    assert_eq!(replay(&with(63, u32::MAX)).number(), 0);
+    assert_eq!(replay(&with(EVENTS + 89, 406)).number(), 0);
+    assert_eq!(replay(&with(EVENTS + 89, 60_007)).number(), 3);
+    assert_eq!(replay(&with(EVENTS + 89, 60_008)).number(), 3);
+    assert_eq!(replay(&with(EVENTS + 4, u32::MAX)).number(), 0);
     let mut other = session();
     other.settings.station += 1;
     assert_eq!(replay(&other.to_octets()).number(), 2);

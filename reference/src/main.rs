@@ -9,6 +9,7 @@ mod car_script;
 mod car_tests;
 mod compare;
 mod count;
+mod edition_count;
 mod generate;
 mod log;
 mod log_count;
@@ -20,6 +21,8 @@ mod random;
 mod refusal;
 mod replay;
 mod run_count;
+#[cfg(test)]
+mod sae_tests;
 mod script;
 mod show;
 mod spread_count;

@@ -1,6 +1,6 @@
 //! Random numbers from a seed, and frames damaged by them.
 
-use crate::messages::{Address, Kind, Message};
+use crate::messages::{Address, Edition, Kind, Message};
 use crate::script::MOST;
 
 /// SplitMix64.
@@ -45,8 +45,14 @@ impl Random {
     /// The message's frame, now and then with reserved octets set: so often in a hundred damaged,
     /// else now and then with its padding cut or filled. Damage may put one of our addresses in
     /// the wrong place.
-    pub fn frame(&mut self, message: &Message, damage: usize, ours: [Address; 2]) -> Vec<u8> {
-        let mut octets = message.to_frame().unwrap_or_default();
+    pub fn frame(
+        &mut self,
+        message: &Message,
+        edition: Edition,
+        damage: usize,
+        ours: [Address; 2],
+    ) -> Vec<u8> {
+        let mut octets = message.to_frame(edition).unwrap_or_default();
         if self.chance(20) {
             self.set_reserved(message.body.kind(), &mut octets);
         }
@@ -56,7 +62,7 @@ impl Random {
                 self.damage(&mut octets, ours);
             }
         } else if self.chance(5) {
-            let shortest = message.body.kind().shortest();
+            let shortest = message.body.kind().shortest_with(message.body.groups());
             let padded = octets.len().saturating_sub(shortest);
             octets.truncate(shortest + self.below(padded + 1));
             let padding = self.next() as u8;

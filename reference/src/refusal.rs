@@ -24,6 +24,8 @@ pub enum Refusal {
     OnlyForStations,
     NoSounds,
     EmptyRun,
+    OtherTry,
+    GroupCount,
 }
 
 impl Refusal {
@@ -33,7 +35,7 @@ impl Refusal {
 }
 
 /// What each number means, from 1 on.
-const WORDS: [&str; 21] = [
+const WORDS: [&str; 23] = [
     "frame too short",
     "frame head wrong",
     "unknown message type",
@@ -46,7 +48,7 @@ const WORDS: [&str; 21] = [
     "all records held by other cars",
     "no such record, run, profile or station",
     "record in another phase",
-    "sound count over 9 or heard already",
+    "sound count too high or heard already",
     "tick gap over 60,000",
     "output too short",
     "bad configuration",
@@ -55,10 +57,13 @@ const WORDS: [&str; 21] = [
     "only a station receives this",
     "a report of no sounds",
     "a request with an empty run",
+    "START of the other try",
+    "another group count than the record's",
 ];
 
 /// The numbers that a station gives, and those that a car gives.
-pub const OF_STATIONS: [u32; 18] = [1, 2, 3, 4, 5, 6, 7, 8, 9, 10, 11, 12, 13, 14, 15, 16, 17, 21];
+pub const OF_STATIONS: [u32; 20] =
+    [1, 2, 3, 4, 5, 6, 7, 8, 9, 10, 11, 12, 13, 14, 15, 16, 17, 21, 22, 23];
 pub const OF_CARS: [u32; 15] = [1, 2, 3, 4, 5, 6, 7, 8, 11, 14, 15, 16, 18, 19, 20];
 
 /// A refusal number in words.

@@ -199,7 +199,8 @@ fn change_fields(log: &mut Log, cause: u32, random: &mut Random) {
     let large = large(random);
     let any = random.next() as u8;
     match cause {
-        8 => log.settings.exempt = random.pick(&[2, 3, large], 2),
+        8 if random.chance(50) => log.settings.exempt = random.pick(&[2, 3, large], 2),
+        8 => log.settings.edition = random.pick(&[2, 3, large], 2),
         9 => {
             event.kind = random.pick(&[5, 6, 7, large], 5);
             put_event(log, place, event, &octets);

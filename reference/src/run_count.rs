@@ -33,7 +33,7 @@ impl Runs {
     /// Counts one event by the station before it.
     pub fn event(&self, table: &mut Table, event: &Event, before: &Station, outcome: &Outcome) {
         let Event::Frame { octets, .. } = event else { return };
-        let Ok(message) = Message::read(octets) else { return };
+        let Ok(message) = Message::read(octets, self.config.edition) else { return };
         let mut add = |name: &str| table.add(EMPTY, name);
         match (message.body, outcome) {
             (Body::ParmReq { run }, Ok(_)) => {
@@ -86,10 +86,10 @@ fn alone(octet: usize) -> String {
 /// The run of a message that a record has to have.
 fn run(body: &Body) -> Option<RunId> {
     match body {
-        Body::StartAttenChar { run }
+        Body::StartAttenChar { run, .. }
         | Body::MnbcSound { run, .. }
-        | Body::AttenCharRsp { run }
-        | Body::MatchReq { run } => Some(*run),
+        | Body::AttenCharRsp { run, .. }
+        | Body::MatchReq { run, .. } => Some(*run),
         _ => None,
     }
 }

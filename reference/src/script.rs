@@ -1,7 +1,7 @@
 //! The bench script: its reader and writer, and the output's ("The bench script"). What the car's
 //! script shares with it stands here too.
 
-use crate::messages::{Address, Nid, Nmk};
+use crate::messages::{Address, Edition, Nid, Nmk};
 use crate::refusal::Refusal;
 use crate::station::{Config, Indication, Pilot, Service, Station};
 use std::io::{self, BufRead, BufReader, Read, Write};
@@ -145,6 +145,7 @@ pub fn write_head(script: &mut impl Write, config: &Config, events: u32) -> io::
     script.write_all(&config.nid.0)?;
     script.write_all(&config.nmk.0)?;
     write_number(script, u32::from(config.exempt))?;
+    write_number(script, u32::from(config.edition == Edition::Sae))?;
     write_number(script, events)
 }
 
@@ -281,6 +282,10 @@ impl<R: Read> Script<R> {
             nid: Nid(take(&mut input)?),
             nmk: Nmk(take(&mut input)?),
             exempt: take_yes_or_no(&mut input)?,
+            edition: match take_yes_or_no(&mut input)? {
+                false => Edition::Iso,
+                true => Edition::Sae,
+            },
         };
         Ok(Script { entries: Entries::open(input)?, config })
     }

@@ -1,7 +1,7 @@
 //! A readable line for each event of a script.
 
 use crate::compare;
-use crate::messages::{Address, Body, Kind, Message};
+use crate::messages::{Address, Body, Edition, Kind, Message};
 use crate::script::{Answer, Event};
 use crate::station::{Phase, State, Station, Step};
 
@@ -10,7 +10,7 @@ state afterwards                          reply; indication";
 
 /// Time, message or event, car, state afterwards, reply, indication.
 pub fn line(event: &Event, station: &Station, answer: &Answer) -> String {
-    let (name, car) = describe(event);
+    let (name, car) = describe(event, station.edition());
     let reply = match (answer.refusal, event, answer.octets.first()) {
         (0, Event::Query { .. }, _) => service(&answer.octets),
         (0, _, None) => "-".into(),
@@ -39,9 +39,9 @@ fn service(octets: &[u8]) -> String {
 }
 
 /// The event in words, and the car it names.
-fn describe(event: &Event) -> (String, Option<Address>) {
+fn describe(event: &Event, edition: Edition) -> (String, Option<Address>) {
     match event {
-        Event::Frame { octets, .. } => match Message::read(octets) {
+        Event::Frame { octets, .. } => match Message::read(octets, edition) {
             Ok(message) => match message.body {
                 Body::MnbcSound { count, .. } => {
                     (format!("CM_MNBC_SOUND.IND {count}"), message.car())
@@ -77,7 +77,8 @@ fn state(station: &Station, car: Option<Address>) -> String {
                 Phase::Validating(Step::Success) => "Validating, success".into(),
                 phase => format!("{phase:?}"),
             };
-            format!("{phase}, {} ms", record.left)
+            let attempt = if record.later { ", later try" } else { "" };
+            format!("{phase}{attempt}, {} ms", record.left)
         }
         None if car.is_some() => "no record".into(),
         None => {

@@ -1,10 +1,10 @@
 //! What a script reaches of the rules on the spread: values that change it, and service queries.
 
 use crate::count::{phase, state, Table};
-use crate::messages::{Address, Body, Groups, Message};
+use crate::messages::{Address, Body, Groups, Message, MOST_GROUPS};
 use crate::refusal::Refusal;
 use crate::script::{Event, Outcome};
-use crate::station::{Record, State, Station};
+use crate::station::{Config, Record, State, Station};
 
 const SPREAD: &str = "91 spread";
 
@@ -22,26 +22,26 @@ const ROWS: [&str; 33] = [
     "query in ready",
     "query in counting",
     "query in success",
-    "query: 0 heard",
-    "query: 1 to 9 heard",
-    "query: 10 heard",
+    "query: none heard",
+    "query: some heard",
+    "query: all heard",
     "query: one profile",
-    "query: 2 to 9 profiles",
-    "query: ten profiles",
+    "query: some profiles",
+    "query: all profiles",
     "query: least 0",
     "query: least 255",
     "query: greatest 0",
     "query: greatest 255",
     "query: 0 and 255 in one group",
     "query after a restart, wider before",
-    "query after the tenth lowered the least",
-    "query after the tenth raised the greatest",
+    "query after the last lowered the least",
+    "query after the last raised the greatest",
     "first profile",
     "later profile: least lowered",
     "later profile: greatest raised",
     "later profile: neither",
-    "tenth profile: least lowered",
-    "tenth profile: greatest raised",
+    "last profile: least lowered",
+    "last profile: greatest raised",
 ];
 
 /// A table's rows on the spread.
@@ -49,15 +49,17 @@ const ROWS: [&str; 33] = [
 pub struct Spreads {
     /// What a car's record had when it was restarted, where it counted a profile.
     before: Vec<(Address, Groups, Groups)>,
-    /// Cars whose tenth profile lowered the least, or raised the greatest value of a group.
-    tenth: Vec<(Address, bool, bool)>,
+    /// Cars whose last profile, which closed Sounding, lowered the least or raised the greatest
+    /// value of a group.
+    last: Vec<(Address, bool, bool)>,
+    config: Config,
 }
 
 impl Spreads {
     /// Rows of zero.
-    pub fn new(table: &mut Table) -> Spreads {
+    pub fn new(config: Config, table: &mut Table) -> Spreads {
         ROWS.iter().for_each(|name| table.row(SPREAD, name));
-        Spreads { before: Vec::new(), tenth: Vec::new() }
+        Spreads { before: Vec::new(), last: Vec::new(), config }
     }
 
     /// Counts one event by the station before and after it.
@@ -79,30 +81,33 @@ impl Spreads {
         };
         rows.iter().for_each(|name| table.add(SPREAD, name));
         self.before.retain(|(car, ..)| after.record(*car).is_some());
-        self.tenth.retain(|(car, ..)| after.record(*car).is_some_and(|own| own.profiles > 0));
+        self.last.retain(|(car, ..)| after.record(*car).is_some_and(|own| own.profiles > 0));
     }
 
     /// The rows of a query that was answered.
     fn answered(&self, record: &Record) -> Vec<String> {
         let mut rows = vec![format!("query in {}", phase(record))];
         let mut add = |applies: bool, name: &str| rows.extend(applies.then(|| name.to_string()));
+        let all = u32::from(self.config.attempt(record.later).sounds());
         add(
             true,
             match record.heard.count_ones() {
-                0 => "query: 0 heard",
-                10 => "query: 10 heard",
-                _ => "query: 1 to 9 heard",
+                0 => "query: none heard",
+                heard if heard == all => "query: all heard",
+                _ => "query: some heard",
             },
         );
         add(
             true,
-            match record.profiles {
+            match u32::from(record.profiles) {
                 1 => "query: one profile",
-                10 => "query: ten profiles",
-                _ => "query: 2 to 9 profiles",
+                profiles if profiles == all => "query: all profiles",
+                _ => "query: some profiles",
             },
         );
-        let groups: Vec<(u8, u8)> = record.least.into_iter().zip(record.greatest).collect();
+        let counted = record.groups.unwrap_or(MOST_GROUPS).into();
+        let groups = record.least.into_iter().zip(record.greatest).take(counted);
+        let groups: Vec<(u8, u8)> = groups.collect();
         add(groups.iter().any(|(least, _)| *least == 0), "query: least 0");
         add(groups.iter().any(|(least, _)| *least == 255), "query: least 255");
         add(groups.iter().any(|(_, greatest)| *greatest == 0), "query: greatest 0");
@@ -115,9 +120,9 @@ impl Spreads {
                 groups.iter().zip(old).any(|(now, old)| *old.0 < now.0 || *old.1 > now.1);
             add(is_wider, "query after a restart, wider before");
         }
-        if let Some((_, lowered, raised)) = self.tenth.iter().find(|(car, ..)| own(car)) {
-            add(*lowered, "query after the tenth lowered the least");
-            add(*raised, "query after the tenth raised the greatest");
+        if let Some((_, lowered, raised)) = self.last.iter().find(|(car, ..)| own(car)) {
+            add(*lowered, "query after the last lowered the least");
+            add(*raised, "query after the last raised the greatest");
         }
         rows
     }
@@ -136,7 +141,7 @@ impl Spreads {
 
     /// The rows of an accepted frame.
     fn frame(&mut self, octets: &[u8], before: &Station, after: &Station) -> Vec<String> {
-        let Ok(message) = Message::read(octets) else { return Vec::new() };
+        let Ok(message) = Message::read(octets, self.config.edition) else { return Vec::new() };
         let car = message.car();
         let record = |station: &Station| car.and_then(|car| station.record(car).cloned());
         let (Some(old), Some(new)) = (record(before), record(after)) else { return Vec::new() };
@@ -150,9 +155,10 @@ impl Spreads {
             Body::AttenProfile { .. } => {
                 let lowered = old.least != new.least;
                 let raised = old.greatest != new.greatest;
-                let which = if new.profiles == 10 { "tenth" } else { "later" };
-                if new.profiles == 10 {
-                    self.tenth.push((old.car, lowered, raised));
+                let all = u16::from(self.config.attempt(new.later).sounds());
+                let which = if new.profiles == all { "last" } else { "later" };
+                if new.profiles == all {
+                    self.last.push((old.car, lowered, raised));
                 }
                 let mut rows = Vec::new();
                 rows.extend(lowered.then(|| format!("{which} profile: least lowered")));

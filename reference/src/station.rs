@@ -1,12 +1,11 @@
 //! The station: state, records, the five calls and the service query ("The station").
 
-use crate::messages::{Address, Body, Groups, Kind, Message, Nid, Nmk, RunId};
-use crate::messages::{FAILURE, NOT_REQUIRED, READY, SUCCESS};
+use crate::messages::{Address, Body, Edition, Groups, Id, Kind, Message, Nid, Nmk, RunId, Try};
+use crate::messages::{FAILURE, MOST_GROUPS, NOT_REQUIRED, NO_ID, READY, SUCCESS};
 use crate::refusal::Refusal;
 
 const ADMISSION: u32 = 50_000;
 const ASKED: u32 = 400;
-const SOUNDING: u32 = 600;
 const REPORTED: u32 = 200;
 const AWAITING: u32 = 10_000;
 const VALIDATING_READY: u32 = 400;
@@ -15,7 +14,6 @@ const WINDOW: u32 = 100;
 const VALIDATING_SUCCESS: u32 = 10_000;
 const JOINING: u32 = 12_000;
 const RETRIES: u8 = 2;
-const PROFILES: u16 = 10;
 const LONGEST_GAP: u32 = 60_000;
 /// How many records stand side by side.
 pub const RECORDS: usize = 16;
@@ -30,6 +28,7 @@ pub struct Config {
     pub nmk: Nmk,
     /// Whether validation is not required.
     pub exempt: bool,
+    pub edition: Edition,
 }
 
 /// The control pilot's states.
@@ -99,6 +98,10 @@ pub enum Step {
 pub struct Record {
     pub car: Address,
     pub run: RunId,
+    /// Whether the try is a later one; never in the ISO edition.
+    pub later: bool,
+    /// The group count that the first profile fixed; none in the ISO edition.
+    pub groups: Option<u8>,
     /// The M-SOUND counts heard, one bit each.
     pub heard: u16,
     pub profiles: u16,
@@ -176,6 +179,11 @@ impl Station {
         self.records().find(|record| record.car == car)
     }
 
+    /// The edition; ISO after a bad configuration.
+    pub fn edition(&self) -> Edition {
+        self.config.map_or(Edition::Iso, |config| config.edition)
+    }
+
     /// Whether every record is held.
     pub fn is_full(&self) -> bool {
         self.records.iter().all(Option::is_some)
@@ -226,20 +234,24 @@ impl Station {
         Ok(Service { heard: heard.count_ones(), least: *least, greatest: *greatest })
     }
 
-    /// A received frame: "16, 15, reading, 17, 7, 8, 21, then 9 and 10, or 11, 12, 13".
+    /// A received frame: "16, 15, reading, 17, 7, 8, 21, then 9 and 10, or 11, 12, then 13, 22 or
+    /// 23".
     pub fn receive(&mut self, frame: &[u8], output: &mut [u8]) -> Answer {
         let config = self.config()?;
-        let mut output = Output::lent(output)?;
-        let message = Message::read(frame)?;
+        let mut output = Output::lent(output, config.edition)?;
+        let message = Message::read(frame, config.edition)?;
         let car = message.car().ok_or(Refusal::CarOnly)?;
         config.concerns(&message, car)?;
         match (self.state, message.body) {
             (State::Matching { .. }, _) => self.matching(car, &message, config, &mut output)?,
-            (State::Joining { car: joining, run: its, .. }, Body::MatchReq { run }) => {
+            (
+                State::Joining { car: joining, run: its, .. },
+                Body::MatchReq { run, car_id, station_id },
+            ) => {
                 if (car, run) != (joining, its) {
                     return Err(Refusal::NoRecord);
                 }
-                output.send(config.match_cnf(run), config.station, car)?;
+                output.send(config.match_cnf(run, car_id, station_id), config.station, car)?;
             }
             _ => return Err(Refusal::State),
         }
@@ -258,46 +270,55 @@ impl Station {
             Body::ParmReq { run } if run.is_empty() => return Err(Refusal::EmptyRun),
             Body::ParmReq { run } => {
                 let place = self.place(car)?;
-                out.send(Body::ParmCnf { run }, config.station, car)?;
-                *place = Some(Record::asked(car, run));
+                // A request that takes a free record makes a first try, a restart a later one.
+                let later = config.edition == Edition::Sae && place.is_some();
+                let attempt = config.attempt(later);
+                out.send(Body::ParmCnf { run, attempt }, config.station, car)?;
+                *place = Some(Record::asked(car, run, later));
             }
-            Body::StartAttenChar { run } => {
+            Body::StartAttenChar { run, attempt } => {
                 let record = self.run(car, run)?;
-                match record.phase {
-                    Phase::Asked => record.enter(Phase::Sounding, SOUNDING),
-                    Phase::Sounding => {}
-                    Phase::Reported { .. } | Phase::Awaiting | Phase::Validating(_) => {
-                        return Err(Refusal::Phase);
-                    }
+                let (Phase::Asked | Phase::Sounding) = record.phase else {
+                    return Err(Refusal::Phase);
+                };
+                if attempt != config.attempt(record.later) {
+                    return Err(Refusal::OtherTry);
+                }
+                if record.phase == Phase::Asked {
+                    record.enter(Phase::Sounding, attempt.time());
                 }
             }
             Body::MnbcSound { run, count, .. } => {
                 let record = self.run(car, run)?.sounding()?;
-                if count > 9 || record.heard & (1 << count) != 0 {
+                let sounds = config.attempt(record.later).sounds();
+                if count >= sounds || record.heard & (1 << count) != 0 {
                     return Err(Refusal::SoundCount);
                 }
                 record.heard |= 1 << count;
             }
-            Body::AttenProfile { groups, .. } => {
+            Body::AttenProfile { count, groups, .. } => {
                 let record = self.held(car)?.sounding()?;
+                if config.edition == Edition::Sae && *record.groups.get_or_insert(count) != count {
+                    return Err(Refusal::GroupCount);
+                }
                 record.add(&groups);
-                if record.profiles == PROFILES {
+                if record.profiles == u16::from(config.attempt(record.later).sounds()) {
                     out.send(record.report(), config.station, car)?;
                     record.enter(Phase::Reported { retries: RETRIES }, REPORTED);
                 }
             }
-            Body::AttenCharRsp { run } => {
+            Body::AttenCharRsp { run, .. } => {
                 let record = self.run(car, run)?;
                 let Phase::Reported { .. } = record.phase else { return Err(Refusal::Phase) };
                 record.enter(Phase::Awaiting, AWAITING);
             }
-            Body::MatchReq { run } => {
+            Body::MatchReq { run, car_id, station_id } => {
                 let (Phase::Awaiting | Phase::Validating(Step::Success)) =
                     self.run(car, run)?.phase
                 else {
                     return Err(Refusal::Phase);
                 };
-                out.send(config.match_cnf(run), config.station, car)?;
+                out.send(config.match_cnf(run, car_id, station_id), config.station, car)?;
                 self.state = State::Joining { left: JOINING, car, run };
                 self.free_all();
             }
@@ -344,7 +365,7 @@ impl Station {
     /// the confirmations of validations behind them, in record order too.
     pub fn tick(&mut self, reading: u32, output: &mut [u8]) -> Answer {
         let config = self.config()?;
-        let mut output = Output::lent(output)?;
+        let mut output = Output::lent(output, config.edition)?;
         let elapsed = reading.wrapping_sub(self.reading);
         if elapsed > LONGEST_GAP {
             return Err(Refusal::TickGap);
@@ -428,16 +449,28 @@ impl Config {
         ours.then_some(()).ok_or(Refusal::NotOurs)
     }
 
-    fn match_cnf(&self, run: RunId) -> Body {
-        Body::MatchCnf { run, nid: self.nid, nmk: self.nmk }
+    /// The confirmation has the two IDs of the request that it answers.
+    fn match_cnf(&self, run: RunId, car_id: Id, station_id: Id) -> Body {
+        Body::MatchCnf { run, nid: self.nid, nmk: self.nmk, car_id, station_id }
+    }
+
+    /// The try of a record.
+    pub fn attempt(&self, later: bool) -> Try {
+        match (self.edition, later) {
+            (Edition::Iso, _) => Try::Iso,
+            (Edition::Sae, false) => Try::First,
+            (Edition::Sae, true) => Try::Later,
+        }
     }
 }
 
 impl Record {
-    fn asked(car: Address, run: RunId) -> Record {
+    fn asked(car: Address, run: RunId, later: bool) -> Record {
         Record {
             car,
             run,
+            later,
+            groups: None,
             heard: 0,
             profiles: 0,
             sums: [0; 58],
@@ -493,11 +526,17 @@ impl Record {
     }
 
     /// The ATTEN_CHAR.IND: "profiles counted, and for each group the sum divided by that count,
-    /// rounded to the nearest whole number, a half upwards".
+    /// rounded to the nearest whole number, a half upwards"; with the record's group count.
     fn report(&self) -> Body {
         let octet = |value: u16| u8::try_from(value).unwrap_or(u8::MAX);
-        let groups = self.sums.map(|sum| octet(mean(sum, self.profiles)));
-        Body::AttenChar { run: self.run, sounds: octet(self.profiles), groups }
+        Body::AttenChar {
+            run: self.run,
+            sounds: octet(self.profiles),
+            count: self.groups.unwrap_or(MOST_GROUPS),
+            groups: self.sums.map(|sum| octet(mean(sum, self.profiles))),
+            source_id: NO_ID,
+            resp_id: NO_ID,
+        }
     }
 }
 
@@ -556,18 +595,19 @@ fn run_down(
 struct Output<'a> {
     octets: &'a mut [u8],
     used: usize,
+    edition: Edition,
 }
 
 impl<'a> Output<'a> {
-    /// Frame and tick calls ask for an output of room for a report to each record.
-    fn lent(octets: &'a mut [u8]) -> Result<Self, Refusal> {
+    /// Frame and tick calls ask for an output with room for the longest report to each record.
+    fn lent(octets: &'a mut [u8], edition: Edition) -> Result<Self, Refusal> {
         let enough = octets.len() >= LEAST_OUTPUT;
-        enough.then_some(Output { octets, used: 0 }).ok_or(Refusal::Output)
+        enough.then_some(Output { octets, used: 0, edition }).ok_or(Refusal::Output)
     }
 
     fn send(&mut self, body: Body, station: Address, car: Address) -> Checked {
         let rest = self.octets.get_mut(self.used..).ok_or(Refusal::Output)?;
-        self.used += body.send(station, car).write(rest)?;
+        self.used += body.send(station, car).write(self.edition, rest)?;
         Ok(())
     }
 }

@@ -1,6 +1,6 @@
 //! The paper's bench cases P1 to P12 and V1 to V10, and each of its rules at least once.
 
-use crate::messages::{Address, Body, Destination, Kind, Message, Nid, Nmk, RunId};
+use crate::messages::{Address, Body, Destination, Edition, Kind, Message, Nid, Nmk, RunId, Try};
 use crate::refusal::Refusal;
 use crate::script::{write_head, Event};
 use crate::station::{Answer, Config, Indication, Phase, Pilot, Service, State, Station, Step};
@@ -11,41 +11,48 @@ const fn address(last: u8) -> Address {
     Address([2, 0, 0, 0, 0, last])
 }
 
+const ISO: Edition = Edition::Iso;
 const CAR: Address = address(1);
 const OTHER: Address = address(2);
 const US: Address = address(0xAA);
 const MODEM: Address = address(0xBB);
 const RUN: RunId = RunId([1, 2, 3, 4, 5, 6, 7, 8]);
 const NID: Nid = Nid([1, 2, 3, 4, 5, 6, 0x3F]);
-const CONFIG: Config =
-    Config { station: US, modem: MODEM, nid: NID, nmk: Nmk([0x4B; 16]), exempt: false };
+const CONFIG: Config = Config {
+    station: US,
+    modem: MODEM,
+    nid: NID,
+    nmk: Nmk([0x4B; 16]),
+    exempt: false,
+    edition: Edition::Iso,
+};
 const REQUEST: Body = Body::ParmReq { run: RUN };
-const START: Body = Body::StartAttenChar { run: RUN };
-const MATCH: Body = Body::MatchReq { run: RUN };
-const RESPONSE: Body = Body::AttenCharRsp { run: RUN };
+const START: Body = Body::start(RUN);
+const MATCH: Body = Body::match_req(RUN);
+const RESPONSE: Body = Body::response(RUN);
 const FIRST: Body = Body::ValidateReq { timer: 0 };
-const OTHER_RUN: Body = Body::MatchReq { run: RunId([0; 8]) };
+const OTHER_RUN: Body = Body::match_req(RunId([0; 8]));
 
 /// Each of the eleven messages, as a station would see it.
 fn eleven() -> [Message; 11] {
     let (run, groups) = (RUN, std::array::from_fn(|group| group as u8));
     [
         REQUEST.broadcast(CAR),
-        Body::ParmCnf { run }.send(US, CAR),
+        Body::ParmCnf { run, attempt: Try::Iso }.send(US, CAR),
         START.broadcast(CAR),
-        Body::AttenChar { run, sounds: 10, groups }.send(US, CAR),
+        Body::report(run, 10, groups).send(US, CAR),
         RESPONSE.send(CAR, US),
-        Body::MnbcSound { run, count: 9, random: [0xA5; 16] }.broadcast(CAR),
+        Body::sound(run, 9, [0xA5; 16]).broadcast(CAR),
         second(9).broadcast(CAR),
         Body::ValidateCnf { toggles: 3, result: 2 }.send(US, CAR),
         MATCH.send(CAR, US),
         match_cnf(),
-        Body::AttenProfile { car: CAR, groups }.send(MODEM, US),
+        Body::profile(CAR, groups).send(MODEM, US),
     ]
 }
 
 fn match_cnf() -> Message {
-    Body::MatchCnf { run: RUN, nid: NID, nmk: CONFIG.nmk }.send(US, CAR)
+    Body::match_cnf(RUN, NID, CONFIG.nmk).send(US, CAR)
 }
 
 /// The second validate request, to all.
@@ -59,7 +66,7 @@ fn validated(car: Address, result: u8, toggles: u8) -> Message {
 }
 
 fn sound(count: u8) -> Body {
-    Body::MnbcSound { run: RUN, count, random: [0; 16] }
+    Body::sound(RUN, count, [0; 16])
 }
 
 fn octets(start: &str, zeros: usize) -> Vec<u8> {
@@ -78,7 +85,7 @@ const NOTHING: Seen = Ok((Vec::new(), None));
 const NO_LINK: Seen = Ok((Vec::new(), Some(Indication::NoLink)));
 
 fn replies(messages: &[Message]) -> Seen {
-    Ok((messages.iter().flat_map(|message| message.to_frame().unwrap()).collect(), None))
+    Ok((messages.iter().flat_map(|message| message.to_frame(ISO).unwrap()).collect(), None))
 }
 
 #[derive(Clone)]
@@ -126,7 +133,7 @@ impl Bench {
     }
 
     fn hear(&mut self, message: Message) -> Seen {
-        self.octets(&message.to_frame().unwrap())
+        self.octets(&message.to_frame(ISO).unwrap())
     }
 
     /// A message of the first car; a validate request is the first one.
@@ -149,7 +156,7 @@ impl Bench {
     }
 
     fn profile(&mut self, car: Address, value: u8) -> Seen {
-        self.hear(Body::AttenProfile { car, groups: [value; 58] }.send(MODEM, US))
+        self.hear(Body::profile(car, [value; 58]).send(MODEM, US))
     }
 
     fn tick(&mut self, elapsed: u32) -> Seen {
@@ -251,13 +258,13 @@ fn service(heard: u32, least: u8, greatest: u8) -> Result<Service, u32> {
 }
 
 fn report(car: Address, sounds: u8, value: u8) -> Message {
-    Body::AttenChar { run: RUN, sounds, groups: [value; 58] }.send(US, car)
+    Body::report(RUN, sounds, [value; 58]).send(US, car)
 }
 
 #[test]
 fn p1_p2_a_request_and_its_reply() {
-    assert_eq!(REQUEST.broadcast(CAR).to_frame(), Ok(p1()));
-    assert_eq!(Message::read(&p1()), Ok(REQUEST.broadcast(CAR)));
+    assert_eq!(REQUEST.broadcast(CAR).to_frame(ISO), Ok(p1()));
+    assert_eq!(Message::read(&p1(), ISO), Ok(REQUEST.broadcast(CAR)));
     let start =
         "02 00 00 00 00 01 02 00 00 00 00 AA 88 E1 01 65 60 00 00 FF FF FF FF FF FF 0A 06 01 \
                  02 00 00 00 00 01 00 00 01 02 03 04 05 06 07 08";
@@ -269,10 +276,10 @@ fn p1_p2_a_request_and_its_reply() {
 #[test]
 fn p3_to_p6_lengths() {
     let long: Vec<u8> = [&p1()[..], &[0]].concat();
-    assert_eq!(Message::read(&p1()[..29]), Ok(REQUEST.broadcast(CAR)));
-    assert_eq!(Message::read(&p1()[..28]), Err(Refusal::Short));
-    assert_eq!(Message::read(&long), Err(Refusal::Long));
-    assert_eq!(Message::read(&p1()[..18]), Err(Refusal::Short));
+    assert_eq!(Message::read(&p1()[..29], ISO), Ok(REQUEST.broadcast(CAR)));
+    assert_eq!(Message::read(&p1()[..28], ISO), Err(Refusal::Short));
+    assert_eq!(Message::read(&long, ISO), Err(Refusal::Long));
+    assert_eq!(Message::read(&p1()[..18], ISO), Err(Refusal::Short));
 }
 
 #[test]
@@ -297,10 +304,10 @@ fn the_mean_is_the_nearest_and_a_half_goes_up() {
     let mut bench = Bench::sounding();
     for values in [[10, 10, 0, 255, 1], [11, 10, 1, 255, 0], [11, 11, 0, 254, 0]] {
         let groups = std::array::from_fn(|group| values[group % 5]);
-        assert_eq!(bench.hear(Body::AttenProfile { car: CAR, groups }.send(MODEM, US)), NOTHING);
+        assert_eq!(bench.hear(Body::profile(CAR, groups).send(MODEM, US)), NOTHING);
     }
     let groups = std::array::from_fn(|group| [11, 10, 0, 255, 0][group % 5]);
-    let report = Body::AttenChar { run: RUN, sounds: 3, groups }.send(US, CAR);
+    let report = Body::report(RUN, 3, groups).send(US, CAR);
     assert_eq!((bench.tick(600), bench.tick(200)), (replies(&[report]), replies(&[report])));
 }
 
@@ -325,7 +332,7 @@ fn p8_p9_the_clock_wraps_and_gaps_are_refused() {
 fn p10_a_full_house() {
     let mut bench = Bench::plugged();
     for last in 1..=16 {
-        let reply = Body::ParmCnf { run: RUN }.send(US, address(last));
+        let reply = Body::ParmCnf { run: RUN, attempt: Try::Iso }.send(US, address(last));
         assert_eq!(bench.hear(REQUEST.broadcast(address(last))), replies(&[reply]));
     }
     assert_eq!(bench.hear(REQUEST.broadcast(address(17))), Err(10));
@@ -364,21 +371,21 @@ fn is_reserved(kind: Kind, at: usize) -> bool {
 #[test]
 fn every_octet_but_the_reserved_ones_is_looked_at() {
     for (message, kind) in eleven().into_iter().zip(Kind::ALL) {
-        let frame = message.to_frame().unwrap();
-        assert_eq!((message.body.kind(), frame.len()), (kind, kind.written()));
+        let frame = message.to_frame(ISO).unwrap();
+        assert_eq!((message.body.kind(), frame.len()), (kind, kind.written_with(58)));
         for length in 0..=frame.len() + 1 {
             let lengthened = [&frame[..], &[0]].concat();
-            let read = Message::read(&lengthened[..length]);
+            let read = Message::read(&lengthened[..length], ISO);
             match length {
                 _ if length < kind.shortest() => assert_eq!(read, Err(Refusal::Short)),
-                _ if length > kind.written() => assert_eq!(read, Err(Refusal::Long)),
+                _ if length > kind.written_with(58) => assert_eq!(read, Err(Refusal::Long)),
                 _ => assert_eq!(read, Ok(message)),
             }
         }
         for (at, bit) in (0..frame.len()).flat_map(|at| (0..8).map(move |bit| (at, bit))) {
             let mut changed = frame.clone();
             changed[at] ^= 1 << bit;
-            let read = Message::read(&changed);
+            let read = Message::read(&changed, ISO);
             assert_eq!(read == Ok(message), at >= kind.shortest() || is_reserved(kind, at));
             if let Ok(other) = read {
                 // What is written again has zeros in reserved octets and padding.
@@ -386,7 +393,7 @@ fn every_octet_but_the_reserved_ones_is_looked_at() {
                 (0..changed.len())
                     .filter(|at| is_reserved(kind, *at))
                     .for_each(|at| changed[at] = 0);
-                assert_eq!(other.to_frame().unwrap(), changed);
+                assert_eq!(other.to_frame(ISO).unwrap(), changed);
             }
         }
     }
@@ -408,20 +415,20 @@ fn reserved_octets_are_skipped_and_the_identifiers_are_not() {
         (58..=65).chain([73]).collect(),
         vec![7],
     ]) {
-        let (frame, kind) = (message.to_frame().unwrap(), message.body.kind());
+        let (frame, kind) = (message.to_frame(ISO).unwrap(), message.body.kind());
         let found: Vec<usize> = (0..90).filter(|at| is_reserved(kind, 19 + at)).collect();
         assert_eq!(found, places);
         let mut filled = frame.clone();
         places.iter().for_each(|at| filled[19 + at] = 0xFF);
-        assert_eq!(Message::read(&filled), Ok(message));
-        assert_eq!(Message::read(&filled[..kind.shortest()]), Ok(message));
+        assert_eq!(Message::read(&filled, ISO), Ok(message));
+        assert_eq!(Message::read(&filled[..kind.shortest()], ISO), Ok(message));
     }
     let matching = [(8, 4..=20), (8, 27..=43), (9, 4..=20), (9, 27..=43)];
     let zeros = [(5, 2..=18), (3, 16..=49), (4, 16..=50)].into_iter().chain(matching);
     for (message, at) in zeros.flat_map(|(message, run)| run.map(move |at| (message, at))) {
-        let mut frame = eleven()[message].to_frame().unwrap();
+        let mut frame = eleven()[message].to_frame(ISO).unwrap();
         frame[19 + at] = 1;
-        assert_eq!(Message::read(&frame), Err(Refusal::Octet));
+        assert_eq!(Message::read(&frame, ISO), Err(Refusal::Octet));
     }
 }
 
@@ -429,37 +436,37 @@ fn reserved_octets_are_skipped_and_the_identifiers_are_not() {
 fn a_newer_car_is_taken() {
     let mut bench = Bench::sounding();
     let set = |message: Message, from: usize, to: usize| {
-        let mut frame = message.to_frame().unwrap();
+        let mut frame = message.to_frame(ISO).unwrap();
         frame[19 + from..19 + to].fill(0xA5);
         frame
     };
     assert_eq!(bench.octets(&set(sound(4).broadcast(CAR), 28, 36)), NOTHING);
-    let profile = Body::AttenProfile { car: CAR, groups: [40; 58] }.send(MODEM, US);
+    let profile = Body::profile(CAR, [40; 58]).send(MODEM, US);
     assert_eq!(bench.octets(&set(profile, 7, 8)), NOTHING);
     assert_eq!(bench.tick(600), replies(&[report(CAR, 1, 40)]));
     assert_eq!(bench.car(RESPONSE), NOTHING);
     // The reply has zeros there.
     assert_eq!(bench.octets(&set(MATCH.send(CAR, US), 58, 66)), replies(&[match_cnf()]));
     assert_eq!(bench.octets(&set(MATCH.send(CAR, US), 58, 66)), replies(&[match_cnf()]));
-    assert_eq!(match_cnf().to_frame().unwrap()[19 + 58..19 + 66], [0; 8]);
+    assert_eq!(match_cnf().to_frame(ISO).unwrap()[19 + 58..19 + 66], [0; 8]);
 }
 
 #[test]
 fn the_order_of_reading() {
-    let mut frame = eleven()[10].to_frame().unwrap();
+    let mut frame = eleven()[10].to_frame(ISO).unwrap();
     for (at, octet, number) in [(19 + 6, 0x3B, 6), (19, 3, 5), (6, 3, 5), (0, 3, 5)] {
         frame[at] = octet;
-        assert_eq!(Message::read(&frame).map_err(Refusal::number), Err(number));
+        assert_eq!(Message::read(&frame, ISO).map_err(Refusal::number), Err(number));
     }
     frame.push(0);
-    assert_eq!(Message::read(&frame), Err(Refusal::Long));
+    assert_eq!(Message::read(&frame, ISO), Err(Refusal::Long));
     frame.truncate(84);
-    assert_eq!(Message::read(&frame), Err(Refusal::Short));
+    assert_eq!(Message::read(&frame, ISO), Err(Refusal::Short));
     frame[15] = 0x63;
-    assert_eq!(Message::read(&frame), Err(Refusal::Type));
+    assert_eq!(Message::read(&frame, ISO), Err(Refusal::Type));
     frame[18] = 1;
-    assert_eq!(Message::read(&frame), Err(Refusal::Head));
-    assert_eq!(Message::read(&frame[..18]), Err(Refusal::Short));
+    assert_eq!(Message::read(&frame, ISO), Err(Refusal::Head));
+    assert_eq!(Message::read(&frame[..18], ISO), Err(Refusal::Short));
 }
 
 #[test]
@@ -475,24 +482,24 @@ fn addresses_of_the_wrong_kind() {
         };
         cases.extend(ends.iter().map(|end| Message { destination: *end, ..message }));
         for case in cases {
-            assert_eq!(case.to_frame(), Err(Refusal::AddressKind));
-            let mut frame = message.to_frame().unwrap();
+            assert_eq!(case.to_frame(ISO), Err(Refusal::AddressKind));
+            let mut frame = message.to_frame(ISO).unwrap();
             frame[..6].copy_from_slice(&case.destination.0);
             frame[6..12].copy_from_slice(&case.source.0);
-            assert_eq!(Message::read(&frame), Err(Refusal::AddressKind));
+            assert_eq!(Message::read(&frame, ISO), Err(Refusal::AddressKind));
         }
     }
 }
 
 #[test]
 fn the_order_of_writing() {
-    let body = Body::MatchCnf { run: RUN, nid: Nid([0, 0, 0, 0, 0, 0, 0x40]), nmk: CONFIG.nmk };
+    let body = Body::match_cnf(RUN, Nid([0, 0, 0, 0, 0, 0, 0x40]), CONFIG.nmk);
     let mut output = [0xEE; 109];
-    assert_eq!(body.send(US, Address::BROADCAST).write(&mut []), Err(Refusal::AddressKind));
-    assert_eq!(body.send(US, CAR).write(&mut []), Err(Refusal::Octet));
-    assert_eq!(match_cnf().write(&mut output[..108]), Err(Refusal::Output));
+    assert_eq!(body.send(US, Address::BROADCAST).write(ISO, &mut []), Err(Refusal::AddressKind));
+    assert_eq!(body.send(US, CAR).write(ISO, &mut []), Err(Refusal::Octet));
+    assert_eq!(match_cnf().write(ISO, &mut output[..108]), Err(Refusal::Output));
     assert_eq!(output, [0xEE; 109]);
-    assert_eq!(match_cnf().write(&mut output), Ok(109));
+    assert_eq!(match_cnf().write(ISO, &mut output), Ok(109));
 }
 
 #[test]
@@ -506,7 +513,10 @@ fn the_order_of_a_frame_to_the_station() {
         Err(15)
     );
     assert_eq!(bench.octets(&[]), Err(1));
-    assert_eq!(bench.hear(Body::ParmCnf { run: RUN }.send(CAR, address(2))), Err(17));
+    assert_eq!(
+        bench.hear(Body::ParmCnf { run: RUN, attempt: Try::Iso }.send(CAR, address(2))),
+        Err(17)
+    );
     assert_eq!(bench.hear(MATCH.send(CAR, MODEM)), Err(7));
     assert_eq!(bench.car(MATCH), Err(8));
     let mut bench = Bench::plugged();
@@ -527,7 +537,7 @@ fn frames_that_are_not_ours() {
         assert_eq!(bench.hear(START.broadcast(strange)), Err(7));
         assert_eq!(bench.profile(strange, 1), Err(7));
     }
-    let profile = Body::AttenProfile { car: CAR, groups: [1; 58] };
+    let profile = Body::profile(CAR, [1; 58]);
     for (from, to) in [(CAR, US), (US, US), (address(9), US), (MODEM, address(9)), (MODEM, MODEM)] {
         assert_eq!(bench.hear(profile.send(from, to)), Err(7));
     }
@@ -714,7 +724,7 @@ fn the_spread_of_each_group() {
             }
             _ => round.wrapping_mul(37).wrapping_add(group as u8),
         });
-        let profile = Body::AttenProfile { car: CAR, groups: values };
+        let profile = Body::profile(CAR, values);
         assert!(bench.hear(profile.send(MODEM, US)).is_ok());
         for group in 0..58 {
             least[group] = least[group].min(values[group]);
@@ -750,8 +760,8 @@ fn an_empty_run_is_refused() {
     let empty = Body::ParmReq { run: EMPTY };
     // Reading and writing accept it.
     let frame = octets("FF FF FF FF FF FF 02 00 00 00 00 01 88 E1 01 64 60", 43);
-    assert_eq!(empty.broadcast(CAR).to_frame(), Ok(frame.clone()));
-    assert_eq!(Message::read(&frame[..29]), Ok(empty.broadcast(CAR)));
+    assert_eq!(empty.broadcast(CAR).to_frame(ISO), Ok(frame.clone()));
+    assert_eq!(Message::read(&frame[..29], ISO), Ok(empty.broadcast(CAR)));
     // 16, 15, reading and 7 come before, and so does 8.
     let (mut bad, _) = Station::configure(Config { modem: US, ..CONFIG });
     assert_eq!(bad.receive(&frame, &mut [0; LEAST_OUTPUT]), Err(Refusal::Configuration));
@@ -798,10 +808,10 @@ fn an_empty_run_is_refused() {
     }
     // Other messages with such a run are of another run.
     let others = [
-        Body::StartAttenChar { run: EMPTY },
-        Body::MnbcSound { run: EMPTY, count: 0, random: [0; 16] },
-        Body::AttenCharRsp { run: EMPTY },
-        Body::MatchReq { run: EMPTY },
+        Body::start(EMPTY),
+        Body::sound(EMPTY, 0, [0; 16]),
+        Body::response(EMPTY),
+        Body::match_req(EMPTY),
     ];
     Bench::sounding().refuses(11, &others);
     // One octet that isn't zero is enough.
@@ -809,7 +819,7 @@ fn an_empty_run_is_refused() {
         let mut run = [0; 8];
         run[octet] = 1;
         let run = RunId(run);
-        let reply = replies(&[Body::ParmCnf { run }.send(US, CAR)]);
+        let reply = replies(&[Body::ParmCnf { run, attempt: Try::Iso }.send(US, CAR)]);
         assert_eq!(Bench::sounding().car(Body::ParmReq { run }), reply);
     }
 }
@@ -836,7 +846,8 @@ fn a_query_in_words() {
         "{words}"
     );
     // Two frames of 60 octets are no query's answer.
-    let frames = [validated(CAR, 1, 0), validated(OTHER, 2, 0)].map(|cnf| cnf.to_frame().unwrap());
+    let frames =
+        [validated(CAR, 1, 0), validated(OTHER, 2, 0)].map(|cnf| cnf.to_frame(ISO).unwrap());
     let words = compare::compare(&output(&frames.concat())[..], &output(&other)[..]).unwrap();
     assert!(words.unwrap_err().contains("CM_VALIDATE.CNF (ready) to 02:00:00:00:00:01, CM_"));
 }
@@ -851,9 +862,11 @@ fn script(events: &[Event]) -> Vec<u8> {
 #[test]
 fn a_script_is_answered_event_by_event() {
     let frame = |room| Event::Frame { octets: p1(), room };
-    let hear =
-        |message: Message| Event::Frame { octets: message.to_frame().unwrap(), room: LEAST_OUTPUT };
-    let profile = |value| Body::AttenProfile { car: CAR, groups: [value; 58] }.send(MODEM, US);
+    let hear = |message: Message| Event::Frame {
+        octets: message.to_frame(ISO).unwrap(),
+        room: LEAST_OUTPUT,
+    };
+    let profile = |value| Body::profile(CAR, [value; 58]).send(MODEM, US);
     let plug = Event::Pilot { to: Pilot::B, reading: 1 };
     let query = Event::Query { car: CAR };
     let start = hear(START.broadcast(CAR));
@@ -872,7 +885,7 @@ fn a_script_is_answered_event_by_event() {
     ]);
     let mut output = Vec::new();
     assert!(crate::run(&whole[..], &mut output).unwrap());
-    let reply = Body::ParmCnf { run: RUN }.send(US, CAR).to_frame().unwrap();
+    let reply = Body::ParmCnf { run: RUN, attempt: Try::Iso }.send(US, CAR).to_frame(ISO).unwrap();
     let number = |number: u32| number.to_le_bytes().to_vec();
     let head = |numbers: [u32; 3]| numbers.map(number).concat();
     let answers = [
@@ -894,21 +907,23 @@ fn a_script_is_answered_event_by_event() {
     for length in 0..whole.len() {
         let mut part = Vec::new();
         assert!(crate::run(&whole[..length], &mut part).is_err());
-        assert!(output.starts_with(&part) && part.is_empty() == (length < 43));
+        assert!(output.starts_with(&part) && part.is_empty() == (length < 47));
     }
     assert!(crate::run(&[&whole[..], &[0]].concat()[..], &mut Vec::new()).is_err());
-    for (at, octet) in [(43, 6), (52, 0x10), (56, 0x10), (59, 6), (55, 2)] {
+    for (at, octet) in [(47, 6), (56, 0x10), (60, 0x10), (63, 6), (59, 2)] {
         let (mut broken, mut output) = (whole.clone(), Vec::new());
         broken[at] = octet;
         broken[at + 1] |= u8::from(octet == 0x10);
         assert!(crate::run(&broken[..], &mut output).is_err());
         assert_eq!(output, number(0));
     }
-    // The setting behind the NMK is a number, 1 or 0; another breaks the layout.
-    let mut exempt = whole.clone();
-    exempt[35] = 1;
-    assert!(crate::run(&exempt[..], &mut Vec::new()).unwrap());
-    for (at, octet) in [(35, 2), (35, 0xFF), (36, 1), (38, 0x80)] {
+    // The settings behind the NMK are numbers, 1 or 0; another breaks the layout.
+    for at in [35, 39] {
+        let mut set = whole.clone();
+        set[at] = 1;
+        assert!(crate::run(&set[..], &mut Vec::new()).unwrap());
+    }
+    for (at, octet) in [(35, 2), (35, 0xFF), (36, 1), (38, 0x80), (39, 2), (40, 1), (42, 0x80)] {
         let (mut broken, mut output) = (whole.clone(), Vec::new());
         broken[at] = octet;
         assert!(crate::run(&broken[..], &mut output).is_err() && output.is_empty());
@@ -917,7 +932,7 @@ fn a_script_is_answered_event_by_event() {
 
 #[test]
 fn random_scripts_come_from_their_seed_and_compare_equal() {
-    let outputs = [1, 1, 2].map(|seed| {
+    let outputs = [1, 1, 3].map(|seed| {
         let mut output = Vec::new();
         assert!(crate::run(&random_script(seed, 5000)[..], &mut output).unwrap());
         output
@@ -927,12 +942,13 @@ fn random_scripts_come_from_their_seed_and_compare_equal() {
     assert!(compare(0, 2).is_err_and(|words| words.starts_with("event ")));
 }
 
-/// Seeds and how many events of them. The first is covered, and reaches every row but 16 and those
-/// of a station that doesn't require validation; the second is covered and reaches these; the
-/// third has a bad configuration.
-const FULL: (u64, u32) = (28, 2_700);
-const EXEMPT: (u64, u32) = (9, 700);
-const BAD: (u64, u32) = (56, 250);
+/// Seeds and how many events of them. The first two are covered: an ISO and an SAE station, each
+/// of which reaches every row but 16, the other edition's and those of a station that doesn't
+/// require validation; the third is covered and reaches these; the last has a bad configuration.
+const FULL: (u64, u32) = (146, 2_600);
+const SAE: (u64, u32) = (92, 3_000);
+const EXEMPT: (u64, u32) = (13, 700);
+const BAD: (u64, u32) = (2, 250);
 
 fn random_script(seed: u64, events: u32) -> Vec<u8> {
     let mut script = Vec::new();
@@ -955,23 +971,39 @@ fn counted(script: &[u8]) -> Vec<String> {
 
 #[test]
 fn a_random_script_reaches_every_row() {
-    let full = counted(&covered_script(FULL));
     let is_exempt = |row: &String| {
         validation_count::EXEMPT.iter().any(|name| row.contains(&format!(" {name}  ")))
     };
-    let zeros: Vec<&String> = full.iter().filter(|row| row.ends_with(" 0")).collect();
-    let (exempt, others): (Vec<&String>, Vec<&String>) =
-        zeros.into_iter().partition(|row| is_exempt(row));
-    assert_eq!(exempt.len(), validation_count::EXEMPT.len());
-    assert!(matches!(others[..], [row] if row.contains("16 bad configuration")), "{others:?}");
-    let reached = counted(&covered_script(EXEMPT));
-    assert!(reached.iter().filter(|row| is_exempt(row)).all(|row| !row.ends_with(" 0")));
+    let is_sae = |row: &String| {
+        [" SAE ", "  22 START of the other try", "  23 another group count"]
+            .iter()
+            .any(|name| row.contains(name))
+    };
+    let is_iso = |row: &String| row.contains(" ISO ");
     // A row that the table did not foresee would be one more.
     let rows = count::Counts::new(CONFIG).to_string().lines().count();
-    assert_eq!((full.len(), reached.len()), (rows, rows));
+    for (script, edition) in [(FULL, Edition::Iso), (SAE, Edition::Sae)] {
+        let script = covered_script(script);
+        assert_eq!(script[39], u8::from(edition == Edition::Sae));
+        let full = counted(&script);
+        let zeros: Vec<&String> = full.iter().filter(|row| row.ends_with(" 0")).collect();
+        let (exempt, others): (Vec<&String>, Vec<&String>) =
+            zeros.into_iter().partition(|row| is_exempt(row));
+        assert_eq!(exempt.len(), validation_count::EXEMPT.len());
+        let is_own = |row: &&&String| match edition {
+            Edition::Iso => !is_sae(row),
+            Edition::Sae => !is_iso(row),
+        };
+        let own: Vec<&&String> = others.iter().filter(is_own).collect();
+        assert!(matches!(own[..], [row] if row.contains("16 bad configuration")), "{own:?}");
+        assert_eq!(full.len(), rows);
+    }
+    let reached = counted(&covered_script(EXEMPT));
+    assert!(reached.iter().filter(|row| is_exempt(row)).all(|row| !row.ends_with(" 0")));
     let bad = counted(&random_script(BAD.0, BAD.1));
     let row = bad.iter().find(|row| row.contains("16 bad configuration")).unwrap();
-    assert!(row.ends_with(" 251") && bad.len() == rows);
+    assert!(row.ends_with(" 251"));
+    assert_eq!((reached.len(), bad.len()), (rows, rows));
 }
 
 /// What one random script may miss, many reach.
@@ -1002,7 +1034,7 @@ fn the_demo_ends_in_link_established() {
 fn v1_the_first_request_and_a_second_car() {
     let mut bench = Bench::two_awaiting();
     let frame = "02 00 00 00 00 AA 02 00 00 00 00 01 88 E1 01 78 60 00 00 00 00 01";
-    assert_eq!(FIRST.send(CAR, US).to_frame(), Ok(octets(frame, 38)));
+    assert_eq!(FIRST.send(CAR, US).to_frame(ISO), Ok(octets(frame, 38)));
     let reply = "02 00 00 00 00 01 02 00 00 00 00 AA 88 E1 01 79 60 00 00 00 00 01";
     assert_eq!(bench.octets(&octets(frame, 38)), Ok((octets(reply, 38), None)));
     assert_eq!(bench.step(CAR), Some((Step::Ready, 400)));
@@ -1030,7 +1062,7 @@ fn v2_two_toggles() {
     assert_eq!((bench.tick(499), bench.car(MATCH)), (NOTHING, Err(12)));
     assert_eq!(bench.tick(1), replies(&[validated(CAR, 2, 2)]));
     let reply = "02 00 00 00 00 01 02 00 00 00 00 AA 88 E1 01 79 60 00 00 00 02 02";
-    assert_eq!(validated(CAR, 2, 2).to_frame(), Ok(octets(reply, 38)));
+    assert_eq!(validated(CAR, 2, 2).to_frame(ISO), Ok(octets(reply, 38)));
     assert_eq!(bench.car(MATCH), replies(&[match_cnf()]));
     assert_eq!(bench.0.state, State::Joining { left: 12_000, car: CAR, run: RUN });
     assert_eq!(bench.0.records().count(), 0);
@@ -1137,7 +1169,7 @@ fn v10_failure_and_no_link_in_one_tick() {
     assert_eq!(bench.hear(second(3).broadcast(CAR)), NOTHING);
     bench.toggle(&[Pilot::C]);
     assert_eq!((bench.tick(399), bench.0.state), (NOTHING, State::Matching { admission: 1 }));
-    let failed = validated(CAR, 3, 0).to_frame().unwrap();
+    let failed = validated(CAR, 3, 0).to_frame(ISO).unwrap();
     assert_eq!(bench.tick(1), Ok((failed, Some(Indication::NoLink))));
     assert_eq!((bench.0.state, bench.0.pilot), (State::Unmatched, Pilot::C));
     // Ready that fires, and a success that stays and then fires.
@@ -1222,13 +1254,13 @@ fn other_messages_while_a_car_validates() {
             false => bench.refuses(12, &[MATCH]),
         }
         // A restart, another car's match, a pilot loss and terminate send no confirmation.
-        let cnf = Body::ParmCnf { run: RUN }.send(US, CAR);
+        let cnf = Body::ParmCnf { run: RUN, attempt: Try::Iso }.send(US, CAR);
         let mut restarted = bench.clone();
         assert_eq!(restarted.car(REQUEST), replies(&[cnf]));
         assert_eq!(restarted.phase(CAR), Some((Phase::Asked, 400)));
         assert_eq!(restarted.hear(FIRST.send(OTHER, US)), replies(&[validated(OTHER, 1, 0)]));
         let mut matched = bench.clone();
-        let reply = Body::MatchCnf { run: RUN, nid: NID, nmk: CONFIG.nmk }.send(US, OTHER);
+        let reply = Body::match_cnf(RUN, NID, CONFIG.nmk).send(US, OTHER);
         assert_eq!(matched.hear(MATCH.send(OTHER, US)), replies(&[reply]));
         assert_eq!((matched.0.records().count(), matched.tick(400)), (0, NOTHING));
         for lost in [Pilot::A, Pilot::E, Pilot::F] {
@@ -1263,14 +1295,14 @@ fn validation_is_one_firing_a_tick() {
 
 #[test]
 fn validate_messages_are_read_and_written() {
-    let read = |frame: &[u8]| Message::read(frame).map_err(Refusal::number);
+    let read = |frame: &[u8]| Message::read(frame, ISO).map_err(Refusal::number);
     for timer in 0..=255 {
         let message = second(timer).broadcast(CAR);
-        let frame = message.to_frame().unwrap();
+        let frame = message.to_frame(ISO).unwrap();
         assert_eq!((frame.len(), read(&frame[..22])), (60, Ok(message)));
         let (single, seen) =
             (second(timer).send(CAR, US), if timer == 0 { Ok(()) } else { Err(6) });
-        assert_eq!(single.to_frame().map(|_| ()).map_err(Refusal::number), seen);
+        assert_eq!(single.to_frame(ISO).map(|_| ()).map_err(Refusal::number), seen);
         let mut frame = frame.clone();
         frame[..6].copy_from_slice(&US.0);
         assert_eq!(read(&frame), seen.map(|()| single));
@@ -1279,30 +1311,33 @@ fn validate_messages_are_read_and_written() {
         assert_eq!(read(&frame), Err(5));
         for result in 0..=6 {
             let message = validated(CAR, result, timer);
-            let mut frame = validated(CAR, 0, timer).to_frame().unwrap();
+            let mut frame = validated(CAR, 0, timer).to_frame(ISO).unwrap();
             frame[21] = result;
             match result {
                 0..=4 => {
-                    assert_eq!((read(&frame), message.to_frame()), (Ok(message), Ok(frame)));
+                    assert_eq!((read(&frame), message.to_frame(ISO)), (Ok(message), Ok(frame)));
                 }
                 _ => {
-                    assert_eq!((read(&frame), message.to_frame()), (Err(6), Err(Refusal::Octet)));
+                    assert_eq!(
+                        (read(&frame), message.to_frame(ISO)),
+                        (Err(6), Err(Refusal::Octet))
+                    );
                 }
             }
         }
     }
     for message in [FIRST.send(CAR, US), FIRST.broadcast(CAR)] {
         for (at, octet) in [(19, 1), (21, 0), (21, 2)] {
-            let mut frame = message.to_frame().unwrap();
+            let mut frame = message.to_frame(ISO).unwrap();
             frame[at] = octet;
             assert_eq!(read(&frame), Err(6));
         }
     }
     let mut output = [0xEE; 60];
-    assert_eq!(second(1).send(CAR, US).write(&mut []), Err(Refusal::Octet));
-    assert_eq!(validated(CAR, 5, 0).write(&mut []), Err(Refusal::Octet));
-    assert_eq!(validated(Address::BROADCAST, 5, 0).write(&mut []), Err(Refusal::AddressKind));
-    assert_eq!(FIRST.send(CAR, US).write(&mut output[..59]), Err(Refusal::Output));
+    assert_eq!(second(1).send(CAR, US).write(ISO, &mut []), Err(Refusal::Octet));
+    assert_eq!(validated(CAR, 5, 0).write(ISO, &mut []), Err(Refusal::Octet));
+    assert_eq!(validated(Address::BROADCAST, 5, 0).write(ISO, &mut []), Err(Refusal::AddressKind));
+    assert_eq!(FIRST.send(CAR, US).write(ISO, &mut output[..59]), Err(Refusal::Output));
     assert_eq!(output, [0xEE; 60]);
     assert_eq!(FIRST.send(CAR, US).car(), Some(CAR));
     assert_eq!(validated(CAR, 1, 0).car(), None);
@@ -1328,7 +1363,7 @@ fn is_validated(record: &crate::station::Record) -> bool {
 
 #[test]
 fn validation_in_words() {
-    let (mut bench, hear) = (Bench::ready(), second(2).broadcast(CAR).to_frame().unwrap());
+    let (mut bench, hear) = (Bench::ready(), second(2).broadcast(CAR).to_frame(ISO).unwrap());
     let event = Event::Frame { octets: hear, room: LEAST_OUTPUT };
     let answer = crate::script::Answer::from(event.happen(&mut bench.0));
     let line = show::line(&event, &bench.0, &answer);

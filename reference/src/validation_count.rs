@@ -141,7 +141,7 @@ impl Validations {
 
     /// The rows of an accepted frame.
     fn frame(&mut self, frame: &[u8], before: &Station, reply: &[u8]) -> Vec<String> {
-        let Ok(message) = Message::read(frame) else { return Vec::new() };
+        let Ok(message) = Message::read(frame, self.config.edition) else { return Vec::new() };
         let car = message.source;
         let last = self.answered.iter().find(|(answered, _)| *answered == car);
         let last = last.map(|(_, result)| *result);
@@ -171,7 +171,7 @@ impl Validations {
             }
             Body::ValidateReq { .. } => {
                 let Ok(Message { body: Body::ValidateCnf { result, .. }, .. }) =
-                    Message::read(reply)
+                    Message::read(reply, self.config.edition)
                 else {
                     return Vec::new();
                 };
@@ -205,7 +205,7 @@ impl Validations {
             Kind::ValidateCnf => "CNF",
             _ => short(kind),
         };
-        let Ok(message) = Message::read(frame) else {
+        let Ok(message) = Message::read(frame, self.config.edition) else {
             return match kind {
                 Kind::ValidateReq | Kind::ValidateCnf => unread(name, kind, frame, number),
                 _ => Vec::new(),
