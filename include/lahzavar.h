@@ -1,5 +1,5 @@
 /*
- * Lahzavar: both ends of SLAC matching (ISO 15118-3), the charging station's and the car's.
+ * Lahzavar: both ends of SLAC matching, the charging station's (ISO 15118-3 or SAE J2931/4) and the car's (ISO 15118-3).
  *
  * A station's driver keeps one struct lahzavar_station for each outlet, configures it, and hands it every event: frames from
  * the modem, clock readings, pilot states, terminate and link up. A car's driver keeps one struct lahzavar_car, configures
@@ -32,23 +32,23 @@ extern "C" {
 
 /* The version of this header. */
 #define LAHZAVAR_MAJOR 0
-#define LAHZAVAR_MINOR 6
+#define LAHZAVAR_MINOR 7
 #define LAHZAVAR_PATCH 0
 /* The same as one number, which lahzavar_version() gives of the library. */
 #define LAHZAVAR_VERSION (65536u * LAHZAVAR_MAJOR + 256u * LAHZAVAR_MINOR + LAHZAVAR_PATCH)
 
 /* The most cars that are in matching at once. */
 #define LAHZAVAR_RECORDS 16
-/* The carrier groups of an attenuation profile. */
+/* The most carrier groups of an attenuation profile; in the ISO edition each one has so many. */
 #define LAHZAVAR_GROUPS 58
-/* The octets of one report, CM_ATTEN_CHAR.IND. */
+/* The most octets of a report, CM_ATTEN_CHAR.IND, which has 71 and its groups; in the ISO edition each one has so many. */
 #define LAHZAVAR_REPORT_OCTETS (71 + LAHZAVAR_GROUPS)
 /* The octets of one confirmation of a validation, CM_VALIDATE.CNF. */
 #define LAHZAVAR_CONFIRMATION_OCTETS 60
-/* The least room that the frame and tick calls ask for: a report to every car. */
+/* The least room that the frame and tick calls ask for: a longest report to every car. */
 #define LAHZAVAR_LEAST_OUTPUT (LAHZAVAR_REPORT_OCTETS * LAHZAVAR_RECORDS)
 /* The sizes of a station's three arrays. */
-#define LAHZAVAR_WORDS (13 + 8 * LAHZAVAR_RECORDS)
+#define LAHZAVAR_WORDS (14 + 10 * LAHZAVAR_RECORDS)
 #define LAHZAVAR_SUMS (LAHZAVAR_GROUPS * LAHZAVAR_RECORDS)
 #define LAHZAVAR_SPREAD (2 * LAHZAVAR_GROUPS * LAHZAVAR_RECORDS)
 
@@ -75,7 +75,7 @@ enum lahzavar_refusal {
     LAHZAVAR_NO_RECORD = 11,         /* this car holds no record, or another run; at a car: another run or station; to the
                                         query: no record, or one that counts no profile */
     LAHZAVAR_WRONG_PHASE = 12,       /* the car's record is in another phase */
-    LAHZAVAR_BAD_SOUND_COUNT = 13,   /* a sound count over 9, or heard already */
+    LAHZAVAR_BAD_SOUND_COUNT = 13,   /* a sound count that the try has not (over 9 in the ISO edition), or heard already */
     LAHZAVAR_TICK_GAP = 14,          /* more than 60,000 ms since the last reading */
     LAHZAVAR_OUTPUT_TOO_SHORT = 15,  /* less room than LAHZAVAR_LEAST_OUTPUT, or LAHZAVAR_CAR_LEAST_OUTPUT */
     LAHZAVAR_BAD_CONFIGURATION = 16, /* the station or car was badly configured, wiped, or NULL */
@@ -83,10 +83,12 @@ enum lahzavar_refusal {
     LAHZAVAR_REPORTS_FULL = 18,      /* a report, while those of LAHZAVAR_STATIONS other stations are kept */
     LAHZAVAR_ONLY_FOR_STATIONS = 19, /* a message that only a station receives */
     LAHZAVAR_NO_SOUNDS = 20,         /* a report of no sounds */
-    LAHZAVAR_EMPTY_RUN = 21          /* a request whose run is eight zero octets */
+    LAHZAVAR_EMPTY_RUN = 21,         /* a request whose run is eight zero octets */
+    LAHZAVAR_OTHER_TRY = 22,         /* a CM_START_ATTEN_CHAR.IND with the values of the other try; SAE alone */
+    LAHZAVAR_OTHER_GROUP_COUNT = 23  /* a CM_ATTEN_PROFILE.IND with another group count than the record's; SAE alone */
 };
 /* The greatest of these numbers. */
-#define LAHZAVAR_LAST_REFUSAL LAHZAVAR_EMPTY_RUN
+#define LAHZAVAR_LAST_REFUSAL LAHZAVAR_OTHER_GROUP_COUNT
 
 /* A refusal as a sentence, for a log; 0 and numbers of a later library have one too. */
 static inline const char *lahzavar_refusal_text(uint32_t refusal)
@@ -136,10 +138,20 @@ static inline const char *lahzavar_refusal_text(uint32_t refusal)
         return "the report tells of no sounds";
     case LAHZAVAR_EMPTY_RUN:
         return "the request's run is empty, eight zero octets";
+    case LAHZAVAR_OTHER_TRY:
+        return "the start has the values of the other try";
+    case LAHZAVAR_OTHER_GROUP_COUNT:
+        return "the profile has another group count than the car's record";
     default:
         return "a refusal that this version does not know";
     }
 }
+
+/* By which standard a station reads and writes. */
+enum lahzavar_edition {
+    LAHZAVAR_ISO = 0, /* ISO 15118-3 */
+    LAHZAVAR_SAE = 1  /* SAE J2931/4 */
+};
 
 /* What the charge controller is to be told. */
 enum lahzavar_indication {
@@ -253,10 +265,11 @@ LAHZAVAR_CHECK(LAHZAVAR_ALIGNMENT(struct lahzavar_station) >= LAHZAVAR_ALIGNMENT
 /*
  * What the library exports. Use the functions below instead, which take a struct lahzavar_station or lahzavar_car and allow
  * NULL for no octets; a pointer passed here is never NULL. `exempt` is 0 where validation is required, and any other number
- * where it is not.
+ * where it is not; `edition` is one of enum lahzavar_edition, any other number is a bad configuration.
  */
 struct lahzavar_answer lahzavar_configure(uint64_t *words, uint16_t *sums, uint8_t *spread, uint64_t address, uint64_t modem,
-                                          uint64_t nid, uint64_t nmk_first, uint64_t nmk_last, uint32_t exempt);
+                                          uint64_t nid, uint64_t nmk_first, uint64_t nmk_last, uint32_t exempt,
+                                          uint32_t edition);
 struct lahzavar_answer lahzavar_frame(uint64_t *words, uint16_t *sums, uint8_t *spread, const uint8_t *octets, size_t length,
                                       uint8_t *out, size_t room);
 struct lahzavar_answer lahzavar_tick(uint64_t *words, uint16_t *sums, uint8_t *spread, uint32_t reading, uint8_t *out,
@@ -344,23 +357,32 @@ static inline void lahzavar_station_wipe(struct lahzavar_station *station)
 
 /*
  * Configures a station: Unmatched, no records, pilot state A, clock reading 0. Refused with LAHZAVAR_BAD_CONFIGURATION
- * unless both addresses are unicast and differ, the NID is below 2^54 and there is an NMK; the station then answers that
- * to everything. ISO 15118-3 wants a fresh NMK for each plug-in, so configure anew before each.
+ * unless both addresses are unicast and differ, the NID is below 2^54, there is an NMK and the edition is one of the two;
+ * the station then answers that to everything. ISO 15118-3 wants a fresh NMK for each plug-in, so configure anew before
+ * each.
  *
  * A car that doubts which station it hangs on may ask for a validation: it switches the pilot between B and C, and the
  * station tells it how often it saw that. Usually validation_not_required is false. True is for a place where no car can be
  * at the wrong bay: the station then answers "not required" to every such request, and never counts.
+ *
+ * The edition is that of the site's cars: an ISO car never matches at an SAE station, nor an SAE car at an ISO one. An SAE
+ * site configures validation as not required. In SAE a CM_SLAC_PARM.REQ of a car that holds no record begins a first try, of
+ * 8 sounds in 200 ms, and one of a car that holds a record a later try, of 16 sounds in 1,000 ms. So a request that is
+ * repeated because its answer came late begins a later try, and a start by the first answer is then refused with
+ * LAHZAVAR_OTHER_TRY.
  */
 static inline struct lahzavar_answer lahzavar_station_configure(struct lahzavar_station *station, uint64_t address,
                                                                 uint64_t modem, uint64_t nid, const uint8_t nmk[16],
-                                                                bool validation_not_required)
+                                                                bool validation_not_required,
+                                                                enum lahzavar_edition edition)
 {
     if (station == NULL || nmk == NULL) {
         lahzavar_station_wipe(station);
         return lahzavar_no_station();
     }
     return lahzavar_configure(station->private_words, station->private_sums, station->private_spread, address, modem, nid,
-                              lahzavar_number(nmk, 8), lahzavar_number(nmk + 8, 8), validation_not_required ? 1 : 0);
+                              lahzavar_number(nmk, 8), lahzavar_number(nmk + 8, 8), validation_not_required ? 1 : 0,
+                              (uint32_t)edition);
 }
 
 /* A frame from the modem, from its destination address on and without its check sequence; NULL stands for no octets. */
@@ -378,9 +400,10 @@ static inline struct lahzavar_answer lahzavar_station_frame(struct lahzavar_stat
 }
 
 /*
- * A reading of a free-running millisecond clock that wraps at 2^32: every 10 ms is often enough, and at least every 100 ms
- * while a car validates. Send every frame of the answer: reports, of LAHZAVAR_REPORT_OCTETS each, and behind them what a
- * validation has come to, a CM_VALIDATE.CNF of LAHZAVAR_CONFIRMATION_OCTETS.
+ * A reading of a free-running millisecond clock that wraps at 2^32: every 10 ms or less, since a frame happens at the last
+ * tick, and a first try in SAE has 200 ms alone; an ISO station may be told more seldom, but at least every 100 ms while a
+ * car validates. Send every frame of the answer: reports, each of 71 octets and its groups, LAHZAVAR_REPORT_OCTETS at most,
+ * and behind them what a validation has come to, a CM_VALIDATE.CNF of LAHZAVAR_CONFIRMATION_OCTETS.
  */
 static inline struct lahzavar_answer lahzavar_station_tick(struct lahzavar_station *station, uint32_t reading, uint8_t *out,
                                                            size_t room)
@@ -429,7 +452,7 @@ static inline struct lahzavar_answer lahzavar_station_link_up(struct lahzavar_st
  * The service query: how many sounds of a car's run were heard, and, in the two arrays, the least and the greatest value
  * that each carrier group had in the profiles counted since the car's last CM_SLAC_PARM.REQ. It changes nothing. Refused
  * with LAHZAVAR_NO_RECORD where the car holds no record or its record counts no profile yet; the arrays then are as they
- * were. An array that is not wanted may be NULL.
+ * were. An array that is not wanted may be NULL. In SAE both values are 0 for the groups that the profiles do not have.
  *
  * The mean is in the report; how far least and greatest stand from it tells a bad cable from a noisy sound. A match takes
  * the records away: ask when the report is sent.
@@ -467,13 +490,19 @@ static inline uint32_t lahzavar_station_records_held(const struct lahzavar_stati
  *         modem_send(out + at, length);
  *     }
  *
- * The frame's type tells its length: reports and CM_VALIDATE.CNF may stand in one answer, any other frame is alone in its.
+ * The frame itself tells its length: reports, each by its group count, and CM_VALIDATE.CNF may stand in one answer, any
+ * other frame is alone in its. The answer's octets divided by its frames do not tell it.
  */
 static inline size_t lahzavar_frame_octets(const uint8_t *frames, size_t octets)
 {
     size_t there = frames != NULL ? octets : 0;
     unsigned type = there < 17 ? 0u : (unsigned)frames[15] | (unsigned)frames[16] << 8;
-    size_t length = type == 0x606E ? LAHZAVAR_REPORT_OCTETS : type == 0x6079 ? LAHZAVAR_CONFIRMATION_OCTETS : there;
+    size_t length = there;
+    if (type == 0x606E && there > 70) {
+        length = 71u + (size_t)frames[70];
+    } else if (type == 0x6079) {
+        length = LAHZAVAR_CONFIRMATION_OCTETS;
+    }
     return length < there ? length : there;
 }
 

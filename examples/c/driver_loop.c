@@ -13,7 +13,8 @@
 
 #define QUEUE 32u /* a power of two, so that the counts may wrap */
 #define REFUSALS (LAHZAVAR_LAST_REFUSAL + 2)
-#define VALIDATION_NOT_REQUIRED false /* true where no car can be at the wrong bay, as at an outlet that stands alone */
+#define VALIDATION_NOT_REQUIRED false /* true at an outlet that stands alone, and at an SAE site */
+#define EDITION LAHZAVAR_ISO          /* LAHZAVAR_SAE where the cars are those of SAE J2931/4; the simulated ones are not */
 
 _Static_assert(ATOMIC_INT_LOCK_FREE == 2, "an interrupt can't wait for a lock");
 
@@ -124,16 +125,20 @@ static void count_refusal(uint32_t refusal)
     }
 }
 
-/* For field service: the lowest and the highest value of a car that gets its report now; a match takes them away. */
-static void log_spread(const uint8_t car[6])
+/*
+ * For field service: the lowest and the highest value of a car that gets this report now; a match takes them away. The
+ * report's groups are all that were measured: 58 in the ISO edition, and behind a lower number the query gives zeros.
+ */
+static void log_spread(const uint8_t *report)
 {
     uint8_t least[LAHZAVAR_GROUPS], greatest[LAHZAVAR_GROUPS], low = UINT8_MAX, high = 0;
+    const uint8_t *car = report; /* the frame's destination */
     struct lahzavar_heard heard = lahzavar_station_query(&station, lahzavar_address(car), least, greatest);
-    unsigned group;
+    unsigned groups = report[FRAME_HEAD + 51], group;
     if (heard.refusal != LAHZAVAR_ACCEPTED) {
         return;
     }
-    for (group = 0; group < LAHZAVAR_GROUPS; group++) {
+    for (group = 0; group < groups && group < LAHZAVAR_GROUPS; group++) {
         low = least[group] < low ? least[group] : low;
         high = greatest[group] > high ? greatest[group] : high;
     }
@@ -148,7 +153,7 @@ static void obey(struct lahzavar_answer answer)
     for (at = 0; at < answer.octets; at += length) {
         length = lahzavar_frame_octets(output + at, answer.octets - at);
         put_frame(&to_send, output + at, length);
-        if (length == LAHZAVAR_REPORT_OCTETS) {
+        if (frame_type(output + at, length) == CM_ATTEN_CHAR_IND) {
             log_spread(output + at);
         }
     }
@@ -244,9 +249,9 @@ static struct lahzavar_answer start(uint32_t reading)
 {
     uint64_t address = lahzavar_address(our_address), modem = lahzavar_address(our_modem), nid = lahzavar_nid(network_id);
     struct lahzavar_answer answer =
-        lahzavar_station_configure(&station, address, modem, nid, network_key, VALIDATION_NOT_REQUIRED);
+        lahzavar_station_configure(&station, address, modem, nid, network_key, VALIDATION_NOT_REQUIRED, EDITION);
     session_log_begin(&session, session_octets, sizeof session_octets, address, modem, nid, network_key,
-                      VALIDATION_NOT_REQUIRED);
+                      VALIDATION_NOT_REQUIRED, EDITION);
     obey(answer);
     handle_pilot(pilot_now, reading);
     return answer;

@@ -3,7 +3,7 @@
  * answered. The program `replay` runs a station by it and names the first answer that differs. docs/INTEGRATION.md, "The log
  * of a session", says when to begin one and what to send. A driver takes this file as it is, and calls
  *
- *     session_log_begin(&log, room, sizeof room, address, modem, nid, nmk, validation_not_required);
+ *     session_log_begin(&log, room, sizeof room, address, modem, nid, nmk, validation_not_required, edition);
  *     answer = lahzavar_station_frame(&station, frame, length, out, sizeof out);
  *     session_log_frame(&log, frame, length, answer, out);        -- at once, since the next call writes over `out`
  *     length = session_log_end(&log);                             -- the log is room[0] to room[length - 1]
@@ -20,9 +20,9 @@
 
 /* The most octets of a log. A smaller room serves too; what is over this number is not used. */
 #define SESSION_LOG_MOST 65536u
-/* The octets before the first event: a head of five numbers, two addresses, NID, NMK, and a number for the last setting. */
+/* The octets before the first event: a head of five numbers, two addresses, NID, NMK, and a number for each setting. */
 #define SESSION_LOG_HEAD (5u * 4u)
-#define SESSION_LOG_LEAST (SESSION_LOG_HEAD + 6u + 6u + 7u + 16u + 4u)
+#define SESSION_LOG_LEAST (SESSION_LOG_HEAD + 6u + 6u + 7u + 16u + 2u * 4u)
 /* The three numbers of an event or of a reply, before its octets. */
 #define SESSION_LOG_ENTRY (3u * 4u)
 
@@ -73,17 +73,19 @@ static inline void session_log_put_back(struct session_log *log, const uint8_t *
 /*
  * Begins a log in a room of the caller, with what lahzavar_station_configure was given: at the same time, so that no event
  * is missing. False, and no log, where the room is shorter than SESSION_LOG_LEAST, or where a value can't be written: an
- * address of 2^48 or more, a NID of 2^56 or more, no NMK. The station answers LAHZAVAR_BAD_CONFIGURATION to everything then.
+ * address of 2^48 or more, a NID of 2^56 or more, no NMK, an edition that is neither LAHZAVAR_ISO nor LAHZAVAR_SAE. The
+ * station answers LAHZAVAR_BAD_CONFIGURATION to everything then.
  */
 static inline bool session_log_begin(struct session_log *log, uint8_t *octets, size_t room, uint64_t address, uint64_t modem,
-                                     uint64_t nid, const uint8_t nmk[16], bool validation_not_required)
+                                     uint64_t nid, const uint8_t nmk[16], bool validation_not_required,
+                                     enum lahzavar_edition edition)
 {
     static const struct session_log none = {NULL, 0, 0, 0, 0, false};
     uint8_t *place;
     unsigned at;
     *log = none;
     if (octets == NULL || room < SESSION_LOG_LEAST || address >> 48 != 0 || modem >> 48 != 0 || nid >> 56 != 0 ||
-        nmk == NULL) {
+        nmk == NULL || (uint32_t)edition > LAHZAVAR_SAE) {
         return false;
     }
     place = octets + SESSION_LOG_HEAD;
@@ -96,6 +98,7 @@ static inline bool session_log_begin(struct session_log *log, uint8_t *octets, s
     }
     memcpy(place + 19, nmk, 16);
     session_log_number(place + 35, validation_not_required ? 1 : 0);
+    session_log_number(place + 39, (uint32_t)edition);
     log->octets = octets;
     log->room = room < SESSION_LOG_MOST ? room : SESSION_LOG_MOST;
     log->front = SESSION_LOG_LEAST;
