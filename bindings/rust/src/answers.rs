@@ -1,7 +1,7 @@
 //! What an accepted event gives.
 
 use crate::raw::Answered;
-use crate::{Indication, Refusal, CONFIRMATION_OCTETS, REPORT_OCTETS};
+use crate::{Indication, Refusal, CONFIRMATION_OCTETS, REPORT_HEAD};
 use core::fmt;
 use core::iter::FusedIterator;
 
@@ -31,7 +31,7 @@ pub struct Done<'a> {
 }
 
 impl<'a> Done<'a> {
-    /// The frames to send, one by one; those of one tick may differ in length.
+    /// The frames to send, one by one, each at its own length: those of one tick may differ in it.
     pub fn frames(&self) -> Frames<'a> {
         Frames { octets: self.octets, left: self.frames }
     }
@@ -67,12 +67,13 @@ impl fmt::Debug for Done<'_> {
     }
 }
 
-/// The octets of the first of the frames that stand here back to back; its type tells them. Reports
-/// and `CM_VALIDATE.CNF` may stand in one answer, any other frame is alone in its.
+/// The octets of the first of the frames that stand here back to back: its type tells them, a
+/// report's group count too. Reports and `CM_VALIDATE.CNF` may stand in one answer, any other frame
+/// is alone in its.
 fn frame_octets(frames: &[u8]) -> usize {
-    let told = match frames.get(15..17) {
-        Some([0x6E, 0x60]) => REPORT_OCTETS,
-        Some([0x79, 0x60]) => CONFIRMATION_OCTETS,
+    let told = match (frames.get(15..17), frames.get(REPORT_HEAD - 1)) {
+        (Some([0x6E, 0x60]), Some(groups)) => REPORT_HEAD + usize::from(*groups),
+        (Some([0x79, 0x60]), _) => CONFIRMATION_OCTETS,
         _ => frames.len(),
     };
     told.min(frames.len())
@@ -108,5 +109,44 @@ impl FusedIterator for Frames<'_> {}
 impl fmt::Debug for Frames<'_> {
     fn fmt(&self, f: &mut fmt::Formatter) -> fmt::Result {
         f.debug_struct("Frames").field("left", &self.left).finish_non_exhaustive()
+    }
+}
+
+#[cfg(test)]
+mod tests {
+    use super::{answer, Answered, Frames, CONFIRMATION_OCTETS};
+    use crate::REPORT_OCTETS;
+
+    /// Writes the start of a report of so many groups.
+    fn report(frame: &mut [u8], groups: u8) {
+        frame[15..17].copy_from_slice(&[0x6E, 0x60]);
+        frame[70] = groups;
+    }
+
+    #[test]
+    fn each_frame_has_its_own_length() {
+        let mut out = [0xEE; 91 + 129 + 60 + 5];
+        report(&mut out, 20);
+        report(&mut out[91..], 58);
+        out[91 + 129..][15..17].copy_from_slice(&[0x79, 0x60]);
+        let answered = Answered { refusal: 0, indication: 0, frames: 3, octets: 91 + 129 + 60 };
+        let done = answer(&answered, &out).unwrap();
+        assert!(done.frames().map(<[u8]>::len).eq([91, REPORT_OCTETS, CONFIRMATION_OCTETS]));
+        assert!(done.frames().flatten().eq(done.octets()));
+    }
+
+    /// Whatever the octets: as many frames as are told, back to back, and none past the end.
+    #[test]
+    fn no_frame_is_longer_than_what_is_there() {
+        for groups in [0, 1, 58, 59, 255] {
+            let mut octets = [0; 400];
+            report(&mut octets, groups);
+            report(&mut octets[71 + usize::from(groups)..], groups.wrapping_mul(3));
+            for length in 0..=octets.len() {
+                let frames = Frames { octets: &octets[..length], left: 3 };
+                assert_eq!(frames.clone().count(), 3);
+                assert!(frames.flatten().eq(&octets[..length]));
+            }
+        }
     }
 }

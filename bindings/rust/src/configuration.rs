@@ -1,6 +1,7 @@
 //! What a station is given before its first event.
 
 use crate::octets::wipe;
+use crate::Edition;
 use core::fmt;
 
 /// What a station is given before its first event; octets as they stand in frames.
@@ -8,16 +9,18 @@ use core::fmt;
 /// The NMK is wiped on drop, and `Debug` does not show it.
 ///
 /// ```
-/// use lahzavar::Configuration;
+/// use lahzavar::{Configuration, Edition};
 /// let configuration = Configuration {
 ///     address: [2, 0, 0, 0, 0, 0xAA],
 ///     modem: [2, 0, 0, 0, 0, 0xBB],
 ///     nid: [1, 2, 3, 4, 5, 6, 7],
 ///     nmk: [0x4B; 16],
 ///     validation_not_required: false,
+///     edition: Edition::Iso,
 /// };
 /// let shown = format!("{configuration:?}");
-/// assert!(shown.ends_with("nid: [1, 2, 3, 4, 5, 6, 7], validation_not_required: false, .. }"));
+/// assert!(shown.contains("nid: [1, 2, 3, 4, 5, 6, 7], "));
+/// assert!(shown.ends_with("validation_not_required: false, edition: Iso, .. }"));
 /// ```
 #[derive(Clone)]
 pub struct Configuration {
@@ -31,9 +34,11 @@ pub struct Configuration {
     pub nmk: [u8; 16],
     /// Usually false: a car that doubts which station it hangs on may ask for a validation, switch
     /// the pilot between B and C, and be told how often the station saw that. True is for a place
-    /// where no car can be at the wrong bay: the station then answers "not required" to every such
-    /// request, and never counts.
+    /// where no car can be at the wrong bay, and for a site of the SAE edition: the station then
+    /// answers "not required" to every such request, and never counts.
     pub validation_not_required: bool,
+    /// By which standard the station reads and writes.
+    pub edition: Edition,
 }
 
 impl Drop for Configuration {
@@ -48,13 +53,13 @@ impl fmt::Debug for Configuration {
         let mut shown = f.debug_struct("Configuration");
         shown.field("address", &self.address).field("modem", &self.modem).field("nid", &self.nid);
         shown.field("validation_not_required", &self.validation_not_required);
-        shown.finish_non_exhaustive()
+        shown.field("edition", &self.edition).finish_non_exhaustive()
     }
 }
 
 #[cfg(test)]
 mod tests {
-    use super::Configuration;
+    use super::{Configuration, Edition};
     use crate::octets::after_drop;
     use core::ptr::addr_of;
 
@@ -66,6 +71,7 @@ mod tests {
             nid: [6; 7],
             nmk: [0x4B; 16],
             validation_not_required: false,
+            edition: Edition::Iso,
         };
         // SAFETY: octets stay octets.
         let nmk = after_drop(configuration, |dropped| unsafe {

@@ -1,5 +1,6 @@
 //! Both ends of SLAC matching (ISO 15118-3), the charging station's and the car's: a safe wrapper
-//! of the proved library.
+//! of the proved library. A station may be of the SAE edition (SAE J2931/4) instead; a car is of
+//! the ISO one.
 //!
 //! A station's driver keeps one [`Station`] for each outlet and hands it every event: frames from
 //! the modem, clock readings, pilot states, terminate and link up. A car's driver keeps one
@@ -10,7 +11,7 @@
 //! # The station
 //!
 //! ```
-//! use lahzavar::{Configuration, Indication, Pilot, State, Station, LEAST_OUTPUT};
+//! use lahzavar::{Configuration, Edition, Indication, Pilot, State, Station, LEAST_OUTPUT};
 //!
 //! let mut station = Station::new(&Configuration {
 //!     address: [2, 0, 0, 0, 0, 0xAA],
@@ -18,6 +19,7 @@
 //!     nid: [1, 2, 3, 4, 5, 6, 7],
 //!     nmk: [0x4B; 16],
 //!     validation_not_required: false,
+//!     edition: Edition::Iso,
 //! })?;
 //! let mut out = [0; LEAST_OUTPUT];
 //!
@@ -73,7 +75,7 @@
 //! # Memory and threads
 //!
 //! The crate is `no_std`, has no dependencies and allocates nothing; no call blocks. A station is
-//! about one and a half kilobytes of its owner's memory, a car less than a fifth of that. Both are
+//! about five kilobytes of its owner's memory, a car less than a third of one. Both are
 //! [`Send`]: they may be handed to another thread. Their events take `&mut`, so that no two of them
 //! run on one station or car at the same time; on two they may.
 //!
@@ -116,30 +118,34 @@ pub use answers::{Answer, Done, Frames};
 pub use car::Car;
 pub use configuration::Configuration;
 pub use key::Key;
-pub use numbers::{CarState, Indication, Pilot, Refusal, State, UnknownNumber};
+pub use numbers::{CarState, Edition, Indication, Pilot, Refusal, State, UnknownNumber};
 pub use spread::Spread;
 pub use station::Station;
 
 /// The most cars that are in matching at once.
 pub const RECORDS: usize = 16;
-/// The carrier groups of an attenuation profile.
+/// The most carrier groups of an attenuation profile; in the ISO edition each one has so many.
 pub const GROUPS: usize = 58;
-/// The octets of one report, `CM_ATTEN_CHAR.IND`.
-pub const REPORT_OCTETS: usize = 71 + GROUPS;
+/// The most octets of a report, `CM_ATTEN_CHAR.IND`, which has 71 and one for each carrier group; in
+/// the ISO edition each one has so many.
+pub const REPORT_OCTETS: usize = REPORT_HEAD + GROUPS;
 /// The octets of one confirmation of a validation, `CM_VALIDATE.CNF`.
 pub const CONFIRMATION_OCTETS: usize = 60;
-/// The least room that [`Station::frame`] and [`Station::tick`] ask for: a report to every car.
+/// The least room that [`Station::frame`] and [`Station::tick`] ask for: a longest report to every
+/// car.
 pub const LEAST_OUTPUT: usize = REPORT_OCTETS * RECORDS;
 /// The most stations whose reports a car keeps.
 pub const STATIONS: usize = 10;
 /// The least room that [`Car::start`], [`Car::frame`] and [`Car::tick`] ask for: a
 /// `CM_SLAC_MATCH.REQ`.
 pub const CAR_LEAST_OUTPUT: usize = 85;
-/// The version of the library that this wrapper describes, 0.6.0: 65536 times its first number, 256
+/// The version of the library that this wrapper describes, 0.7.0: 65536 times its first number, 256
 /// times its second, and its third.
-pub const VERSION: u32 = 256 * 6;
+pub const VERSION: u32 = 256 * 7;
 
-const WORDS: usize = 13 + 8 * RECORDS;
+/// The octets of a report before its values; the last of them is the group count.
+const REPORT_HEAD: usize = 71;
+const WORDS: usize = 14 + 10 * RECORDS;
 const SUMS: usize = GROUPS * RECORDS;
 const SPREAD: usize = 2 * GROUPS * RECORDS;
 const CAR_WORDS: usize = 16 + 2 * STATIONS;

@@ -59,7 +59,7 @@ pub enum Refusal {
     NoRecord,
     /// 12: the car's record is in another phase.
     WrongPhase,
-    /// 13: a sound count over 9, or heard already.
+    /// 13: a sound count that the try has not (over 9 in the ISO edition), or heard already.
     BadSoundCount,
     /// 14: more than 60,000 ms since the last reading.
     TickGap,
@@ -78,12 +78,16 @@ pub enum Refusal {
     NoSounds,
     /// 21: a request whose run is eight zero octets.
     EmptyRun,
+    /// 22: a `CM_START_ATTEN_CHAR.IND` with the values of the other try; SAE alone.
+    OtherTry,
+    /// 23: a `CM_ATTEN_PROFILE.IND` with another group count than the record's; SAE alone.
+    OtherGroupCount,
     /// A number of a later library, which this wrapper does not know.
     Other(u32),
 }
 
 /// Every refusal that this wrapper knows, from number 1 on, with its sentence.
-const REFUSALS: [(Refusal, &str); 21] = [
+const REFUSALS: [(Refusal, &str); 23] = [
     (Refusal::TooShort, "the frame ends before its payload does"),
     (
         Refusal::BadHead,
@@ -114,6 +118,8 @@ const REFUSALS: [(Refusal, &str); 21] = [
     (Refusal::OnlyForStations, "only a station receives this message"),
     (Refusal::NoSounds, "the report tells of no sounds"),
     (Refusal::EmptyRun, "the request's run is empty, eight zero octets"),
+    (Refusal::OtherTry, "the start has the values of the other try"),
+    (Refusal::OtherGroupCount, "the profile has another group count than the car's record"),
 ];
 
 impl Refusal {
@@ -293,3 +299,25 @@ pub enum Pilot {
 }
 
 numbered!(Pilot { A "A" B "B" C "C" D "D" E "E" F "F" });
+
+/// By which standard a station reads and writes: that of the site's cars. An ISO car never matches
+/// at an SAE station, nor an SAE car at an ISO one.
+///
+/// ```
+/// use lahzavar::{Edition, UnknownNumber};
+/// assert_eq!(u32::from(Edition::Sae), 1);
+/// assert_eq!(Edition::try_from(2), Err(UnknownNumber(2)));
+/// assert_eq!(Edition::Iso.to_string(), "ISO 15118-3");
+/// ```
+#[derive(Clone, Copy, Debug, PartialEq, Eq, Hash)]
+pub enum Edition {
+    /// 0: ISO 15118-3.
+    Iso = 0,
+    /// 1: SAE J2931/4. A car's first `CM_SLAC_PARM.REQ` begins a first try, of 8 sounds in 200 ms,
+    /// and one while it holds a record a later try, of 16 sounds in 1,000 ms. A request that is
+    /// repeated because its answer came late does so too, and a start by the first answer is then
+    /// [`Refusal::OtherTry`].
+    Sae = 1,
+}
+
+numbered!(Edition { Iso "ISO 15118-3" Sae "SAE J2931/4" });

@@ -45,6 +45,7 @@ extern "C" {
         nmk_first: u64,
         nmk_last: u64,
         exempt: u32,
+        edition: u32,
     ) -> Answered;
     pub fn lahzavar_frame(
         words: &mut Words,

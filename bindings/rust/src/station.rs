@@ -29,13 +29,14 @@ impl Station {
     /// be larger.
     ///
     /// ```
-    /// use lahzavar::{Configuration, Refusal, Station};
+    /// use lahzavar::{Configuration, Edition, Refusal, Station};
     /// let good = Configuration {
     ///     address: [2, 0, 0, 0, 0, 0xAA],
     ///     modem: [2, 0, 0, 0, 0, 0xBB],
     ///     nid: [0; 7],
     ///     nmk: [0; 16],
     ///     validation_not_required: false,
+    ///     edition: Edition::Iso,
     /// };
     /// assert!(Station::new(&good).is_ok());
     /// let bad = Configuration { modem: good.address, ..good };
@@ -56,14 +57,18 @@ impl Station {
     /// Those of [`Station::new`]; the station then answers [`Refusal::BadConfiguration`] to
     /// everything.
     pub fn configure(&mut self, configuration: &Configuration) -> Result<(), Refusal> {
-        let Configuration { address, modem, nid, nmk, validation_not_required } = configuration;
+        let Configuration { address, modem, nid, nmk, validation_not_required, edition } =
+            configuration;
         let (address, modem) = (number(address), number(modem));
         let nid = nid.iter().rev().fold(0, |number, octet| number << 8 | u64::from(*octet));
-        let ((first, last), exempt) = (halves(nmk), u32::from(*validation_not_required));
+        let (first, last) = halves(nmk);
+        let (exempt, edition) = (u32::from(*validation_not_required), u32::from(*edition));
         let Station { words, sums, spread } = self;
         // SAFETY: the arrays are ours and of the library's lengths.
         let answered = unsafe {
-            raw::lahzavar_configure(words, sums, spread, address, modem, nid, first, last, exempt)
+            raw::lahzavar_configure(
+                words, sums, spread, address, modem, nid, first, last, exempt, edition,
+            )
         };
         accepted(answered.refusal)
     }
@@ -79,6 +84,7 @@ impl Station {
     /// #     nid: [0; 7],
     /// #     nmk: [0; 16],
     /// #     validation_not_required: false,
+    /// #     edition: lahzavar::Edition::Iso,
     /// # };
     /// let mut station = Station::new(&configuration)?;
     /// station.wipe();
@@ -94,7 +100,8 @@ impl Station {
     ///
     /// # Errors
     ///
-    /// Any refusal from 1 to 17 but [`Refusal::TickGap`]; station and output are as they were.
+    /// Any refusal from 1 to 17 but [`Refusal::TickGap`], or from 21 to 23; station and output are as
+    /// they were.
     pub fn frame<'a>(&mut self, octets: &[u8], out: &'a mut [u8]) -> Answer<'a> {
         let Station { words, sums, spread } = self;
         // SAFETY: the arrays are ours and of the library's lengths; the slices are lent whole, and
@@ -113,12 +120,14 @@ impl Station {
         answer(&answered, out)
     }
 
-    /// A reading of a free-running millisecond clock that wraps at 2^32: every 10 ms is often
-    /// enough, and at least every 100 ms while a car validates.
+    /// A reading of a free-running millisecond clock that wraps at 2^32: every 10 ms or less, since a
+    /// frame happens at the last tick, and a first try in SAE has 200 ms alone. An ISO station may be
+    /// told more seldom, but at least every 100 ms while a car validates.
     ///
-    /// The frames are reports, of [`REPORT_OCTETS`](crate::REPORT_OCTETS) each, and behind them what
-    /// a validation has come to, a `CM_VALIDATE.CNF` of
-    /// [`CONFIRMATION_OCTETS`](crate::CONFIRMATION_OCTETS).
+    /// The frames are reports, of 71 octets and one for each carrier group, and behind them what a
+    /// validation has come to, a `CM_VALIDATE.CNF` of
+    /// [`CONFIRMATION_OCTETS`](crate::CONFIRMATION_OCTETS). A report has at most
+    /// [`REPORT_OCTETS`](crate::REPORT_OCTETS), in the ISO edition always.
     ///
     /// # Errors
     ///
@@ -133,6 +142,7 @@ impl Station {
     /// #     nid: [0; 7],
     /// #     nmk: [0; 16],
     /// #     validation_not_required: false,
+    /// #     edition: lahzavar::Edition::Iso,
     /// # };
     /// let mut station = Station::new(&configuration)?;
     /// let mut out = [0; LEAST_OUTPUT];
@@ -194,7 +204,7 @@ impl Station {
 
     /// The service query: how many sounds of a car's run were heard, and the least and the greatest
     /// value that each carrier group had in the profiles counted since the car's last
-    /// `CM_SLAC_PARM.REQ`.
+    /// `CM_SLAC_PARM.REQ`. In SAE both values are 0 for the groups that the profiles do not have.
     ///
     /// A match takes the records away: ask when the report is sent.
     ///
@@ -218,6 +228,7 @@ impl Station {
     /// #     nid: [0; 7],
     /// #     nmk: [0; 16],
     /// #     validation_not_required: false,
+    /// #     edition: lahzavar::Edition::Iso,
     /// # };
     ///
     /// let station = Station::new(&configuration)?;
@@ -270,6 +281,7 @@ impl fmt::Debug for Station {
 mod tests {
     use super::{Configuration, Pilot, Station, SPREAD, SUMS, WORDS};
     use crate::octets::after_drop;
+    use crate::Edition;
     use core::ptr::addr_of;
 
     #[test]
@@ -280,6 +292,7 @@ mod tests {
             nid: [6; 7],
             nmk: [0x4B; 16],
             validation_not_required: false,
+            edition: Edition::Iso,
         };
         let mut station = Station::new(&configuration).unwrap();
         assert!(station.pilot(Pilot::B, 5).is_ok());

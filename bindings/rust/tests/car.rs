@@ -4,8 +4,8 @@
 mod frames;
 
 use frames::Address;
-use lahzavar::{Answer, Car, CarState, Configuration, Indication, Pilot, Refusal, State, Station};
-use lahzavar::{CAR_LEAST_OUTPUT, LEAST_OUTPUT, STATIONS};
+use lahzavar::{Answer, Car, CarState, Configuration, Edition, Indication, Pilot, Refusal, State};
+use lahzavar::{Station, CAR_LEAST_OUTPUT, LEAST_OUTPUT, STATIONS};
 
 const CAR: Address = [2, 0, 0, 0, 0, 1];
 const STATION: Address = [2, 0, 0, 0, 0, 0xAA];
@@ -24,6 +24,7 @@ fn plugged_station() -> Station {
         nid: NID,
         nmk: NMK,
         validation_not_required: false,
+        edition: Edition::Iso,
     };
     let mut station = Station::new(&configuration).unwrap();
     assert!(station.pilot(Pilot::B, START).is_ok());

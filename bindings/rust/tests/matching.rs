@@ -4,8 +4,8 @@
 mod frames;
 
 use frames::{Address, Car};
-use lahzavar::{Answer, Configuration, Indication, Pilot, Refusal, Spread, State, Station};
-use lahzavar::{CONFIRMATION_OCTETS, GROUPS, LEAST_OUTPUT, RECORDS, REPORT_OCTETS};
+use lahzavar::{Answer, Configuration, Edition, Indication, Pilot, Refusal, Spread, State};
+use lahzavar::{Station, CONFIRMATION_OCTETS, GROUPS, LEAST_OUTPUT, RECORDS, REPORT_OCTETS};
 
 const STATION: Address = [2, 0, 0, 0, 0, 0xAA];
 const MODEM: Address = [2, 0, 0, 0, 0, 0xBB];
@@ -17,6 +17,7 @@ fn configuration() -> Configuration {
         nid: [1, 2, 3, 4, 5, 6, 7],
         nmk: [0x4B; 16],
         validation_not_required: false,
+        edition: Edition::Iso,
     }
 }
 

@@ -1,6 +1,6 @@
-//! The numbers and sentences of refusals, indications, states and pilots.
+//! The numbers and sentences of refusals, indications, states, pilots and editions.
 
-use lahzavar::{CarState, Indication, Pilot, Refusal, State, UnknownNumber};
+use lahzavar::{CarState, Edition, Indication, Pilot, Refusal, State, UnknownNumber};
 use std::collections::HashSet;
 use std::fmt::Debug;
 
@@ -19,29 +19,30 @@ where
 }
 
 #[test]
-fn indications_states_and_pilots() {
+fn indications_states_pilots_and_editions() {
     numbers::<Indication>(1, 6);
     numbers::<State>(0, 4);
     numbers::<CarState>(0, 7);
     numbers::<Pilot>(0, 6);
+    numbers::<Edition>(0, 2);
 }
 
 #[test]
 fn every_refusal_has_its_number() {
     assert_eq!(Refusal::try_from(0), Err(UnknownNumber(0)));
-    for number in (1..=22).chain([u32::MAX]) {
+    for number in (1..=24).chain([u32::MAX]) {
         let refusal = Refusal::try_from(number).unwrap();
         assert_eq!((refusal.number(), u32::from(refusal)), (number, number));
-        assert_eq!(matches!(refusal, Refusal::Other(_)), number > 21);
+        assert_eq!(matches!(refusal, Refusal::Other(_)), number > 23);
     }
 }
 
 #[test]
 fn every_refusal_has_its_sentence() {
     let texts: HashSet<&str> =
-        (1..=22).map(|number| Refusal::try_from(number).unwrap().text()).collect();
-    assert_eq!(texts.len(), 22);
-    assert_eq!(Refusal::Other(22).text(), Refusal::Other(99).text());
+        (1..=24).map(|number| Refusal::try_from(number).unwrap().text()).collect();
+    assert_eq!(texts.len(), 24);
+    assert_eq!(Refusal::Other(24).text(), Refusal::Other(99).text());
     assert_eq!(
         Refusal::NotForUs.to_string(),
         "refused with 7: the frame is for another receiver, from another modem, or from ourselves"
@@ -65,4 +66,5 @@ fn words_for_a_log() {
         ["idle", "asking", "confirmed", "sounding", "requesting", "joining", "matched"]
     );
     assert_eq!(words::<Pilot>(), ["A", "B", "C", "D", "E", "F"]);
+    assert_eq!(words::<Edition>(), ["ISO 15118-3", "SAE J2931/4"]);
 }

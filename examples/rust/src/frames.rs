@@ -15,8 +15,6 @@ pub const MATCH_CNF: u16 = 0x607D;
 pub const BROADCAST: Address = [0xFF; 6];
 const HEAD: usize = 19;
 const LEAST: usize = 60;
-#[allow(clippy::cast_possible_truncation, reason = "58 fits an octet")]
-const GROUP_COUNT: u8 = GROUPS as u8;
 
 /// One car: its address and the run number of its matching run.
 #[derive(Clone, Copy)]
@@ -49,17 +47,13 @@ pub fn profile(modem: Address, station: Address, car: Address, value: u8) -> Vec
     profile_of(modem, station, car, &[value; GROUPS])
 }
 
-/// The same with a value for each group.
-pub fn profile_of(
-    modem: Address,
-    station: Address,
-    car: Address,
-    values: &[u8; GROUPS],
-) -> Vec<u8> {
-    frame(station, modem, 0x6086, &[&car, &[GROUP_COUNT, 0], values])
+/// The same with a value for each group: 58 in the ISO edition, 1 to 58 in the SAE edition.
+pub fn profile_of(modem: Address, station: Address, car: Address, values: &[u8]) -> Vec<u8> {
+    let [count, ..] = values.len().to_le_bytes();
+    frame(station, modem, 0x6086, &[&car, &[count, 0], values])
 }
 
-/// The group values of a report, `CM_ATTEN_CHAR.IND`; none where the frame is another message.
+/// The group values of a report, `CM_ATTEN_CHAR.IND`, of 58 groups; none of any other frame.
 pub fn reported(frame: &[u8]) -> Option<[u8; GROUPS]> {
     let payload = frame.get(HEAD..).filter(|_| message_type(frame) == ATTEN_CHAR_IND)?;
     payload.get(52..52 + GROUPS)?.try_into().ok()
@@ -73,6 +67,12 @@ impl Car {
     pub fn start(&self) -> Vec<u8> {
         let payload: &[&[u8]] = &[&[0, 0, 0x0A, 0x06, 0x01], &self.address, &self.run];
         frame(BROADCAST, self.address, 0x606A, payload)
+    }
+
+    /// The start of the SAE edition, with the values of the first try or of a later one.
+    pub fn sae_start(&self, later: bool) -> Vec<u8> {
+        let values = if later { [0x10, 0x0A, 0] } else { [0x08, 0x02, 0] };
+        frame(BROADCAST, self.address, 0x606A, &[&[0; 2], &values, &[0; 6], &self.run])
     }
 
     pub fn sound(&self, count: u8) -> Vec<u8> {

@@ -3,7 +3,8 @@
 
 use crate::frames::{self, Address};
 use crate::{Board, Event};
-use lahzavar::{Answer, Configuration, Done, Key, Pilot, Refusal, State, Station, LEAST_OUTPUT};
+use lahzavar::{Answer, Configuration, Done, Edition, Key, Pilot, Refusal, State};
+use lahzavar::{Station, LEAST_OUTPUT};
 use std::collections::VecDeque;
 
 pub const CAR: Address = [2, 0, 0, 0, 0, 1];
@@ -31,6 +32,7 @@ impl Line {
             nid: NID,
             nmk: NMK,
             validation_not_required: false,
+            edition: Edition::Iso,
         })?;
         Ok(Line { station, clock: PLUG_IN, events: VecDeque::new(), seed: 1 })
     }

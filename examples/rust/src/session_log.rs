@@ -26,10 +26,12 @@ impl SessionLog {
     /// Begins a log with what [`lahzavar::Station::new`] is given: at the same time, so that no event
     /// is missing.
     pub fn new(configuration: &Configuration) -> SessionLog {
-        let Configuration { address, modem, nid, nmk, validation_not_required } = configuration;
-        let setting = u32::from(*validation_not_required).to_le_bytes();
+        let Configuration { address, modem, nid, nmk, validation_not_required, edition } =
+            configuration;
+        let settings = [u32::from(*validation_not_required), u32::from(*edition)];
+        let settings = settings.map(u32::to_le_bytes);
         SessionLog {
-            configuration: [&address[..], modem, nid, nmk, &setting].concat(),
+            configuration: [&address[..], modem, nid, nmk, &settings.concat()].concat(),
             events: Vec::new(),
             replies: Vec::new(),
             count: 0,
@@ -115,16 +117,27 @@ fn entry(first: u32, second: u32, octets: &[u8]) -> Vec<u8> {
 #[cfg(test)]
 mod tests {
     use super::{SessionLog, MOST};
-    use lahzavar::{Configuration, Pilot, Refusal};
+    use lahzavar::{Configuration, Edition, Pilot, Refusal};
 
-    fn empty() -> SessionLog {
-        SessionLog::new(&Configuration {
+    fn begun(validation_not_required: bool, edition: Edition) -> SessionLog {
+        let configuration = Configuration {
             address: [2, 0, 0, 0, 0, 0xAA],
             modem: [2, 0, 0, 0, 0, 0xBB],
             nid: [1, 2, 3, 4, 5, 6, 0x3F],
             nmk: [0x4B; 16],
-            validation_not_required: true,
-        })
+            validation_not_required,
+            edition,
+        };
+        SessionLog::new(&configuration)
+    }
+
+    fn empty() -> SessionLog {
+        begun(true, Edition::Iso)
+    }
+
+    #[test]
+    fn each_setting_has_its_number() {
+        assert_eq!(begun(false, Edition::Sae).octets()[55..], [0, 0, 0, 0, 1, 0, 0, 0]);
     }
 
     #[test]
@@ -135,9 +148,9 @@ mod tests {
         log.terminate(Err(Refusal::WrongState));
         log.tick(7, Err(Refusal::TickGap));
         log.link_up(Err(Refusal::WrongState));
-        let head = [5, 0, 0, 0, 5, 0, 0, 0, 59, 0, 0, 0, 122, 0, 0, 0, 182, 0, 0, 0];
+        let head = [5, 0, 0, 0, 5, 0, 0, 0, 63, 0, 0, 0, 126, 0, 0, 0, 186, 0, 0, 0];
         let places = [2, 0, 0, 0, 0, 0xAA, 2, 0, 0, 0, 0, 0xBB, 1, 2, 3, 4, 5, 6, 0x3F];
-        let rest = [&[0x4B; 16][..], &[1, 0, 0, 0]].concat();
+        let rest = [&[0x4B; 16][..], &[1, 0, 0, 0, 0, 0, 0, 0]].concat();
         let events: [&[u8]; 5] = [
             &[2, 0, 0, 0, 4, 3, 2, 1, 1, 0, 0, 0, 5],
             &[0, 0, 0, 0, 0, 0, 0, 0, 2, 0, 0, 0, 9, 8],

@@ -8,7 +8,7 @@ mod frames;
 mod picture;
 
 use frames::{Address, Car};
-use lahzavar::{Configuration, Pilot, Station, GROUPS, LEAST_OUTPUT};
+use lahzavar::{Configuration, Edition, Pilot, Station, GROUPS, LEAST_OUTPUT};
 use picture::Step;
 use std::env::args_os;
 use std::error::Error;
@@ -99,6 +99,7 @@ fn session(trouble: Trouble) -> Result<Vec<Step>, Box<dyn Error>> {
         nid: [1, 2, 3, 4, 5, 6, 7],
         nmk: *b"a key for tests.",
         validation_not_required: false,
+        edition: Edition::Iso,
     })?;
     let (mut out, mut steps) = ([0; LEAST_OUTPUT], Vec::new());
     let mut hear =

@@ -8,8 +8,8 @@ mod frames;
 mod session_log;
 
 use frames::{Address, Car};
-use lahzavar::{Answer, Configuration, Done, Indication, Pilot, Refusal, State, Station};
-use lahzavar::{LEAST_OUTPUT, REPORT_OCTETS};
+use lahzavar::{Answer, Configuration, Done, Edition, Indication, Pilot, Refusal, State, Station};
+use lahzavar::{GROUPS, LEAST_OUTPUT};
 use session_log::SessionLog;
 use std::collections::BTreeMap;
 use std::ffi::{OsStr, OsString};
@@ -75,15 +75,23 @@ impl Outcome {
     }
 }
 
+/// How many carrier groups a frame tells of, where it is a report, `CM_ATTEN_CHAR.IND`: always all in
+/// the ISO edition.
+fn reported_groups(frame: &[u8]) -> Option<usize> {
+    let report = frame.get(15..17) == Some(&[0x6E, 0x60]);
+    frame.get(70).filter(|_| report).map(|groups| GROUPS.min(usize::from(*groups)))
+}
+
 /// For field service: the lowest and the highest value of each car that gets its report now; a match
 /// takes them away.
 fn log_spreads(station: &Station, answer: Answer) {
-    let frames = answer.iter().flat_map(Done::frames);
-    for report in frames.filter(|frame| frame.len() == REPORT_OCTETS) {
-        let Some(car) = report.first_chunk() else { continue };
+    for frame in answer.iter().flat_map(Done::frames) {
+        let (Some(groups), Some(car)) = (reported_groups(frame), frame.first_chunk()) else {
+            continue;
+        };
         if let Ok(spread) = station.query(*car) {
-            let low = spread.least.into_iter().min().unwrap_or_default();
-            let high = spread.greatest.into_iter().max().unwrap_or_default();
+            let low = spread.least[..groups].iter().min().unwrap_or(&0);
+            let high = spread.greatest[..groups].iter().max().unwrap_or(&0);
             eprintln!("car {car:02X?}: {} sounds heard, {low} to {high} dB", spread.sounds);
         }
     }
@@ -209,6 +217,7 @@ fn main() -> ExitCode {
         nid: [1, 2, 3, 4, 5, 6, 7],
         nmk: *b"a key for tests.",
         validation_not_required: false,
+        edition: Edition::Iso,
     };
     let mut station = match Station::new(&configuration) {
         Ok(station) => station,
