@@ -19,9 +19,9 @@ static const uint8_t nid[7] = {1, 2, 3, 4, 5, 6, 7};
 static const uint8_t nmk[16] = {1, 2, 3};
 
 /* The frames that a car sends. */
-static size_t octets_of(unsigned type)
+static size_t octets_of(const uint8_t *frame, size_t there)
 {
-    switch (type) {
+    switch (frame_type(frame, there)) {
     case CM_SLAC_PARM_REQ:
     case CM_START_ATTEN_CHAR_IND:
         return FRAME_LEAST;

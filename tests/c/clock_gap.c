@@ -72,7 +72,8 @@ static void refused(uint32_t reading, uint32_t count)
 static void configure(void)
 {
     struct lahzavar_answer answer =
-        lahzavar_station_configure(&station, lahzavar_address(us), lahzavar_address(modem), lahzavar_nid(nid), nmk, false);
+        lahzavar_station_configure(&station, lahzavar_address(us), lahzavar_address(modem), lahzavar_nid(nid), nmk, false,
+                                   LAHZAVAR_ISO);
     same("configuring", 0, answer.refusal, LAHZAVAR_ACCEPTED);
 }
 

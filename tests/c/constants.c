@@ -4,6 +4,7 @@
  */
 #include "checks.h"
 #include "lahzavar.h"
+#include "sae_frames.h"
 #include "station_frames.h"
 
 static const uint8_t us[6] = {2, 0, 0, 0, 0, 0xAA};
@@ -11,6 +12,7 @@ static const uint8_t modem[6] = {2, 0, 0, 0, 0, 0xBB};
 static const uint8_t nid[7] = {1, 2, 3, 4, 5, 6, 7};
 static const uint8_t nmk[16] = {0, 1, 2, 3, 4, 5, 6, 7, 8, 9, 10, 11, 12, 13, 14, 15};
 static const enum lahzavar_pilot_state no_pilot = (enum lahzavar_pilot_state)6;
+static const enum lahzavar_edition no_edition = (enum lahzavar_edition)2;
 static const struct car first = {{2, 0, 0, 0, 0, 1}, {1, 2, 3, 4, 5, 6, 7, 8}};
 
 static struct lahzavar_station station;
@@ -40,21 +42,28 @@ static void pilot(enum lahzavar_pilot_state now)
     same("a pilot", lahzavar_station_pilot(&station, now, 0).refusal, LAHZAVAR_ACCEPTED);
 }
 
-static void configure_as(bool validation_not_required)
+static void configure_as(bool validation_not_required, enum lahzavar_edition edition)
 {
     struct lahzavar_answer answer = lahzavar_station_configure(&station, lahzavar_address(us), lahzavar_address(modem),
-                                                               lahzavar_nid(nid), nmk, validation_not_required);
+                                                               lahzavar_nid(nid), nmk, validation_not_required, edition);
     same("configuring", answer.refusal, LAHZAVAR_ACCEPTED);
 }
 
 static void configure(void)
 {
-    configure_as(false);
+    configure_as(false, LAHZAVAR_ISO);
 }
 
 static void plug_in(void)
 {
     configure();
+    pilot(LAHZAVAR_PILOT_B);
+}
+
+/* The same with the SAE edition, as a site of it does. */
+static void plug_in_sae(void)
+{
+    configure_as(true, LAHZAVAR_SAE);
     pilot(LAHZAVAR_PILOT_B);
 }
 
@@ -224,11 +233,12 @@ static void answers_nothing(struct lahzavar_station *other)
 }
 
 /* Configures a station badly, where one before it was good. */
-static void configure_badly(uint64_t address, uint64_t other, uint64_t network, const uint8_t *key)
+static void configure_badly(uint64_t address, uint64_t other, uint64_t network, const uint8_t *key,
+                            enum lahzavar_edition edition)
 {
     struct lahzavar_answer answer;
     plug_in();
-    answer = lahzavar_station_configure(&station, address, other, network, key, false);
+    answer = lahzavar_station_configure(&station, address, other, network, key, false, edition);
     same("bad configuration", answer.refusal, LAHZAVAR_BAD_CONFIGURATION);
     same("its indication, frames and octets", answer.indication | answer.frames | answer.octets, 0);
     answers_nothing(&station);
@@ -237,21 +247,47 @@ static void configure_badly(uint64_t address, uint64_t other, uint64_t network, 
 static void bad_configurations(void)
 {
     uint64_t ours = lahzavar_address(us), modems = lahzavar_address(modem), network = lahzavar_nid(nid);
-    configure_badly(ours, ours, network, nmk);
-    configure_badly(lahzavar_address(NULL), modems, network, nmk);
-    configure_badly(ours, lahzavar_address(NULL), network, nmk);
-    configure_badly(ours, modems, lahzavar_nid(NULL), nmk);
-    configure_badly(ours, modems, (uint64_t)1 << 54, nmk);
-    configure_badly(ours, modems, network, NULL);
+    configure_badly(ours, ours, network, nmk, LAHZAVAR_ISO);
+    configure_badly(ours, ours, network, nmk, LAHZAVAR_SAE);
+    configure_badly(lahzavar_address(NULL), modems, network, nmk, LAHZAVAR_ISO);
+    configure_badly(ours, lahzavar_address(NULL), network, nmk, LAHZAVAR_ISO);
+    configure_badly(ours, modems, lahzavar_nid(NULL), nmk, LAHZAVAR_ISO);
+    configure_badly(ours, modems, (uint64_t)1 << 54, nmk, LAHZAVAR_ISO);
+    configure_badly(ours, modems, network, NULL, LAHZAVAR_ISO);
+    configure_badly(ours, modems, network, nmk, no_edition);
     configure();
+}
+
+/* The library's own call takes 0 and 1 for an edition, and no other number. */
+static void editions(void)
+{
+    static const uint32_t numbers[] = {0, 1, 2, 256, 257, 0x80000000u, UINT32_MAX};
+    size_t at;
+    same("ISO", LAHZAVAR_ISO, 0);
+    same("SAE", LAHZAVAR_SAE, 1);
+    for (at = 0; at < sizeof numbers / sizeof *numbers; at++) {
+        struct lahzavar_answer answer =
+            lahzavar_configure(station.private_words, station.private_sums, station.private_spread, lahzavar_address(us),
+                               lahzavar_address(modem), lahzavar_nid(nid), 1, 2, 0, numbers[at]);
+        if (numbers[at] > 1) {
+            same("a bad edition", answer.refusal, LAHZAVAR_BAD_CONFIGURATION);
+            answers_nothing(&station);
+            continue;
+        }
+        same("an edition", answer.refusal, LAHZAVAR_ACCEPTED);
+        pilot(LAHZAVAR_PILOT_B);
+        same("its confirmation", hear(write_parm_req(frame, &first)).frames, 1);
+        same("its sounds", out[FRAME_HEAD + 6], numbers[at] == LAHZAVAR_ISO ? 10 : 8);
+    }
 }
 
 static void no_station(void)
 {
     struct lahzavar_answer answer =
-        lahzavar_station_configure(NULL, lahzavar_address(us), lahzavar_address(modem), lahzavar_nid(nid), nmk, false);
+        lahzavar_station_configure(NULL, lahzavar_address(us), lahzavar_address(modem), lahzavar_nid(nid), nmk, false,
+                                   LAHZAVAR_ISO);
     same("configuring no station", answer.refusal, LAHZAVAR_BAD_CONFIGURATION);
-    answer = lahzavar_station_configure(NULL, 1, 2, 3, NULL, true);
+    answer = lahzavar_station_configure(NULL, 1, 2, 3, NULL, true, LAHZAVAR_SAE);
     same("the same without an NMK", answer.refusal, LAHZAVAR_BAD_CONFIGURATION);
     lahzavar_station_wipe(NULL);
     answers_nothing(NULL);
@@ -391,7 +427,7 @@ static void other_validations(void)
     same("still ready", lahzavar_station_records_held(&station), 1);
     same("ready no longer", tick(400).frames, 0);
     same("records left", lahzavar_station_records_held(&station), 0);
-    configure_as(true);
+    configure_as(true, LAHZAVAR_ISO);
     pilot(LAHZAVAR_PILOT_B);
     awaited(&first);
     asked_to_validate(&first, 4);
@@ -407,7 +443,7 @@ static void exemptions(void)
     for (at = 0; at < sizeof numbers / sizeof *numbers; at++) {
         struct lahzavar_answer answer =
             lahzavar_configure(station.private_words, station.private_sums, station.private_spread, lahzavar_address(us),
-                               lahzavar_address(modem), lahzavar_nid(nid), 1, 2, numbers[at]);
+                               lahzavar_address(modem), lahzavar_nid(nid), 1, 2, numbers[at], LAHZAVAR_ISO);
         same("configuring", answer.refusal, LAHZAVAR_ACCEPTED);
         pilot(LAHZAVAR_PILOT_B);
         awaited(&first);
@@ -539,6 +575,167 @@ static void frames_of_a_tick(void)
     same("octets of a frame that is cut", lahzavar_frame_octets(out, 100), 100);
 }
 
+/* The answer is one frame with the octets that stand in `frame`, and no octet behind it was written. */
+static void answered(const char *what, struct lahzavar_answer answer, size_t length)
+{
+    same(what, (size_t)memcmp(out, frame, length), 0);
+    same("its frames", answer.frames, 1);
+    same("its octets", answer.octets, length);
+    same("octets by its frame", lahzavar_frame_octets(out, answer.octets), length);
+    all_octets("an octet behind it", out + length, sizeof out - length, 0xEE);
+}
+
+/* A request in SAE, and a confirmation with the values of a try. */
+static void sae_asks(const struct car *car, const uint8_t values[2])
+{
+    struct lahzavar_answer answer;
+    memset(out, 0xEE, sizeof out);
+    answer = hear(write_parm_req(frame, car));
+    answered("the confirmation of a try", answer, write_sae_parm_cnf(frame, car, us, values));
+}
+
+/* A car's first try in SAE until its report: eight profiles of so many groups. */
+static void sae_reported(const struct car *car, unsigned groups)
+{
+    struct lahzavar_answer answer;
+    unsigned left;
+    sae_asks(car, first_try);
+    same("start", hear(write_sae_start(frame, car, first_try)).refusal, LAHZAVAR_ACCEPTED);
+    for (left = 8; left > 1; left--) {
+        same("profile", hear(write_sae_profile(frame, modem, us, car->address, groups, 40)).frames, 0);
+    }
+    memset(out, 0xEE, sizeof out);
+    answer = hear(write_sae_profile(frame, modem, us, car->address, groups, 48));
+    answered("the report of a first try", answer, write_sae_report(frame, car, us, 8, groups, 41));
+}
+
+/* Both tries in SAE: their values, their sounds and how many profiles close them. */
+static void tries(void)
+{
+    static const uint8_t iso_values[2] = {10, 6}, mixed_values[2] = {8, 10}, sender[SAE_ID] = {1, 2, 3};
+    struct lahzavar_answer answer;
+    unsigned left;
+    plug_in_sae();
+    sae_asks(&first, first_try);
+    same("a start of a later try", hear(write_sae_start(frame, &first, later_try)).refusal, LAHZAVAR_OTHER_TRY);
+    same("a start of ISO's values", hear(write_sae_start(frame, &first, iso_values)).refusal, LAHZAVAR_BAD_OCTET);
+    same("a start of both tries", hear(write_sae_start(frame, &first, mixed_values)).refusal, LAHZAVAR_BAD_OCTET);
+    same("a start of ISO", hear(write_start(frame, &first)).refusal, LAHZAVAR_BAD_OCTET);
+    same("a start", hear(write_sae_start(frame, &first, first_try)).refusal, LAHZAVAR_ACCEPTED);
+    same("sound 7", hear(write_sound(frame, &first, 7)).refusal, LAHZAVAR_ACCEPTED);
+    same("sound 7 again", hear(write_sound(frame, &first, 7)).refusal, LAHZAVAR_BAD_SOUND_COUNT);
+    same("sound 8", hear(write_sound(frame, &first, 8)).refusal, LAHZAVAR_BAD_SOUND_COUNT);
+    sae_asks(&first, later_try);
+    same("a start of a first try", hear(write_sae_start(frame, &first, first_try)).refusal, LAHZAVAR_OTHER_TRY);
+    same("a start", hear(write_sae_start(frame, &first, later_try)).refusal, LAHZAVAR_ACCEPTED);
+    same("a start while sounding", hear(write_sae_start(frame, &first, first_try)).refusal, LAHZAVAR_OTHER_TRY);
+    same("sound 15", hear(write_sae_sound(frame, &first, 15, sender)).refusal, LAHZAVAR_ACCEPTED);
+    same("sound 16", hear(write_sound(frame, &first, 16)).refusal, LAHZAVAR_BAD_SOUND_COUNT);
+    for (left = 16; left > 1; left--) {
+        same("profile", hear(write_sae_profile(frame, modem, us, first.address, 58, 255)).frames, 0);
+    }
+    memset(out, 0xEE, sizeof out);
+    answer = hear(write_sae_profile(frame, modem, us, first.address, 58, 240));
+    answered("the report of a later try", answer, write_sae_report(frame, &first, us, 16, 58, 254));
+}
+
+/* The first profile since the request fixes the group count; the query gives zeros behind it. */
+static void group_counts(void)
+{
+    plug_in_sae();
+    sae_asks(&first, first_try);
+    (void)hear(write_sae_start(frame, &first, first_try));
+    same("no groups", hear(write_sae_profile(frame, modem, us, first.address, 0, 0)).refusal, LAHZAVAR_BAD_OCTET);
+    (void)write_sae_profile(frame, modem, us, first.address, 58, 0);
+    frame[FRAME_HEAD + 6] = 59;
+    same("too many groups", hear(FRAME_HEAD + 8 + 58).refusal, LAHZAVAR_BAD_OCTET);
+    same("20 groups", hear(write_sae_profile(frame, modem, us, first.address, 20, 30)).refusal, LAHZAVAR_ACCEPTED);
+    same("21 groups", hear(write_sae_profile(frame, modem, us, first.address, 21, 30)).refusal, LAHZAVAR_OTHER_GROUP_COUNT);
+    same("20 groups", hear(write_sae_profile(frame, modem, us, first.address, 20, 35)).refusal, LAHZAVAR_ACCEPTED);
+    same("a query", query(&station, first.address).refusal, LAHZAVAR_ACCEPTED);
+    all_octets("a least value", least, 20, 30);
+    all_octets("a greatest value", greatest, 20, 35);
+    all_octets("a least value of no group", least + 20, LAHZAVAR_GROUPS - 20, 0);
+    all_octets("a greatest value of no group", greatest + 20, LAHZAVAR_GROUPS - 20, 0);
+    sae_asks(&first, later_try);
+    (void)hear(write_sae_start(frame, &first, later_try));
+    same("21 groups", hear(write_sae_profile(frame, modem, us, first.address, 21, 30)).refusal, LAHZAVAR_ACCEPTED);
+}
+
+/* The reports of one tick in SAE, each at its own length, and behind them a confirmation. */
+static void sae_frames_of_a_tick(void)
+{
+    static const unsigned groups[] = {20, 58, 1, 57};
+    struct lahzavar_answer answer;
+    size_t at = 0, length, place;
+    configure_as(false, LAHZAVAR_SAE);
+    pilot(LAHZAVAR_PILOT_B);
+    sae_reported(&first, 7);
+    same("response", hear(write_rsp(frame, &first, us)).refusal, LAHZAVAR_ACCEPTED);
+    for (place = 0; place < 4; place++) {
+        struct car car = car_at((unsigned)place + 2);
+        sae_reported(&car, groups[place]);
+    }
+    asked_to_validate(&first, 1);
+    same("a second request", second_request(&first, 1), LAHZAVAR_ACCEPTED);
+    memset(out, 0xEE, sizeof out);
+    answer = tick(200);
+    same("frames", answer.frames, 5);
+    for (place = 0; place < 5; place++) {
+        struct car car = car_at(place < 4 ? (unsigned)place + 2 : 1);
+        size_t expected =
+            place < 4 ? write_sae_report(frame, &car, us, 8, groups[place], 41) : write_validate_cnf(frame, &car, us, 0, 2);
+        length = lahzavar_frame_octets(out + at, answer.octets - at);
+        same("octets of a frame", length, expected);
+        same("a frame of the tick", (size_t)memcmp(out + at, frame, expected), 0);
+        at += length;
+    }
+    same("octets", answer.octets, at);
+    all_octets("an octet behind the frames", out + at, sizeof out - at, 0xEE);
+}
+
+/* Whatever stands there, a frame has at least one octet and none past the end, and a report the groups that it tells. */
+static void frames_of_any_octets(void)
+{
+    size_t octets, groups;
+    for (groups = 0; groups < 256; groups++) {
+        (void)write_report(frame, &first, us, 8, 0);
+        frame[FRAME_HEAD + 51] = (uint8_t)groups;
+        memcpy(out, frame, FRAME_MOST);
+        for (octets = 1; octets <= 400; octets++) {
+            size_t length = octets <= 70 || octets < 71 + groups ? octets : 71 + groups;
+            same("octets of a report", lahzavar_frame_octets(out, octets), length);
+        }
+    }
+}
+
+/* The match in SAE: the identifiers of each request come back, and the edition of a car and of its station are one. */
+static void sae_match(void)
+{
+    uint8_t ids[SAE_IDS], others[SAE_IDS];
+    struct lahzavar_answer answer;
+    unsigned at;
+    for (at = 0; at < SAE_IDS; at++) {
+        ids[at] = (uint8_t)(at + 1);
+        others[at] = (uint8_t)(255 - at);
+    }
+    plug_in_sae();
+    sae_reported(&first, 20);
+    same("response", hear(write_sae_rsp(frame, &first, us, others)).refusal, LAHZAVAR_ACCEPTED);
+    asked_to_validate(&first, 4);
+    memset(out, 0xEE, sizeof out);
+    answer = hear(write_sae_match_req(frame, &first, us, ids));
+    answered("the match", answer, write_sae_match_cnf(frame, &first, us, ids, nid, nmk));
+    answer = hear(write_sae_match_req(frame, &first, us, others));
+    answered("the match again", answer, write_sae_match_cnf(frame, &first, us, others, nid, nmk));
+    same("link established", lahzavar_station_link_up(&station).indication, LAHZAVAR_LINK_ESTABLISHED);
+    plug_in();
+    same("an ISO station's confirmation", hear(write_parm_req(frame, &first)).frames, 1);
+    same("a start of SAE", hear(write_sae_start(frame, &first, first_try)).refusal, LAHZAVAR_BAD_OCTET);
+    awaited(&first);
+    same("identifiers", hear(write_sae_match_req(frame, &first, us, ids)).refusal, LAHZAVAR_BAD_OCTET);
+}
+
 static void states_and_indications(void)
 {
     plug_in();
@@ -577,6 +774,7 @@ int main(void)
     refusals_of_matching();
     end_of_admission();
     bad_configurations();
+    editions();
     no_station();
     wiped_station();
     sentences();
@@ -588,6 +786,11 @@ int main(void)
     spread_of_cars();
     missing_arrays();
     frames_of_a_tick();
+    tries();
+    group_counts();
+    sae_frames_of_a_tick();
+    frames_of_any_octets();
+    sae_match();
     pilots();
     return faults == 0 ? 0 : 1;
 }

@@ -4,12 +4,14 @@
  */
 #define _GNU_SOURCE
 #include "lent.h"
+#include "sae_frames.h"
 #include "station_frames.h"
 
+#define EDITIONS 2
 #define STAGES 11
 #define CARS (LAHZAVAR_RECORDS + 1)
 
-static struct lahzavar_station stages[STAGES];
+static struct lahzavar_station stages[EDITIONS][STAGES];
 static struct car cars[CARS];
 static struct zone whole;           /* a station as one piece */
 static struct zone least, greatest; /* what the query fills */
@@ -18,14 +20,21 @@ static const uint8_t modem[6] = {2, 0, 0, 0, 0, 0xBB};
 static const uint8_t nid[7] = {1, 2, 3, 4, 5, 6, 7};
 static const uint8_t nmk[16] = {1, 2, 3};
 
-/* The frames that a station sends. */
-static size_t octets_of(unsigned type)
+/* A report has as many groups as it says, from 1 to 58; 0 where it has not. */
+static size_t octets_of_report(const uint8_t *frame, size_t there)
 {
-    switch (type) {
+    size_t groups = there > FRAME_HEAD + 51 ? frame[FRAME_HEAD + 51] : 0;
+    return groups == 0 || groups > LAHZAVAR_GROUPS ? 0 : 71 + groups;
+}
+
+/* The frames that a station sends. */
+static size_t octets_of(const uint8_t *frame, size_t there)
+{
+    switch (frame_type(frame, there)) {
     case CM_SLAC_PARM_CNF:
         return FRAME_LEAST;
     case CM_ATTEN_CHAR_IND:
-        return LAHZAVAR_REPORT_OCTETS;
+        return octets_of_report(frame, there);
     case CM_VALIDATE_CNF:
         return LAHZAVAR_CONFIRMATION_OCTETS;
     case CM_SLAC_MATCH_CNF:
@@ -50,7 +59,7 @@ static uint64_t some_car(void)
 /* Lends one of the stages with every word changed, or only some: a station whose configuration is bad refuses all. */
 static void lend_changed(void)
 {
-    const struct lahzavar_station *stage = &stages[below(STAGES)];
+    const struct lahzavar_station *stage = &stages[below(EDITIONS)][below(STAGES)];
     size_t chance = below(8) == 0 ? 1 : 8 + below(100);
     uint64_t *word = (uint64_t *)(void *)take(&words, sizeof stage->private_words);
     uint16_t *sum = (uint16_t *)(void *)take(&sums, sizeof stage->private_sums);
@@ -70,12 +79,36 @@ static void lend_changed(void)
     }
 }
 
-#define FRAMES 10
+#define FRAMES 14
 #define KINDS (FRAMES + 5)
+
+/* A frame that is written otherwise in SAE: 10 a start, 11 a profile, 12 a response, 13 a match request. */
+static size_t write_sae_frame(uint8_t *frame, size_t which, const struct car *car)
+{
+    uint8_t ids[SAE_IDS];
+    size_t at;
+    for (at = 0; at < SAE_IDS; at++) {
+        ids[at] = (uint8_t)next_random();
+    }
+    switch (which) {
+    case 10:
+        return write_sae_start(frame, car, below(2) == 0 ? first_try : later_try);
+    case 11:
+        return write_sae_profile(frame, modem, us, car->address, (unsigned)(below(2) == 0 ? 20 : below(60)),
+                                 (unsigned)below(256));
+    case 12:
+        return write_sae_rsp(frame, car, us, ids);
+    default:
+        return write_sae_match_req(frame, car, us, ids);
+    }
+}
 
 /* A frame of each message that a station takes, one that it does not, and random octets. */
 static size_t write_frame(uint8_t *frame, size_t which, const struct car *car)
 {
+    if (which >= 10) {
+        return write_sae_frame(frame, which, car);
+    }
     switch (which) {
     case 0:
         return write_parm_req(frame, car);
@@ -157,7 +190,7 @@ static void call_query(void)
     heard = lahzavar_query(read_words(), sum, spread.reading + spread.at, below(4) == 0 ? next_random() : some_car(), low, high);
     check_read();
     check_refusal(heard.refusal);
-    if (heard.sounds > 10 || (heard.refusal != LAHZAVAR_ACCEPTED && heard.sounds != 0)) {
+    if (heard.sounds > 16 || (heard.refusal != LAHZAVAR_ACCEPTED && heard.sounds != 0)) {
         fail("a number out of range");
     }
     filled = heard.refusal == LAHZAVAR_ACCEPTED ? LAHZAVAR_GROUPS : 0;
@@ -183,10 +216,10 @@ static void call_configure(void)
     begin("configure");
     check_configured(lahzavar_configure(lent_words(), lent_sums(), lent_spread(), changed(0, some_car()),
                                         changed(1, some_car()), changed(2, 3), next_random(), next_random(),
-                                        (uint32_t)changed(0, 1)));
+                                        (uint32_t)changed(0, 1), (uint32_t)(below(2) == 0 ? below(3) : changed(0, 1))));
 }
 
-/* One call of a kind: frames 0 to 9, tick, pilot, terminate, link up, readers. */
+/* One call of a kind: frames 0 to 13, tick, pilot, terminate, link up, readers. */
 static void call(size_t kind)
 {
     static void (*const others[])(void) = {call_tick, call_pilot, call_terminate, call_link_up, call_readers};
@@ -239,25 +272,37 @@ static void round_of_calls(void)
     wiped = 0;
 }
 
-/* Plays one frame to a station that is being set up. */
-static void play(struct lahzavar_station *station, size_t which, const struct car *car)
+/* The frames of a matching as `play` takes them. */
+enum played { PLAY_REQUEST = 0, PLAY_START = 1, PLAY_SOUND = 2, PLAY_PROFILE = 3, PLAY_RESPONSE = 4, PLAY_MATCH = 5 };
+
+/* Plays one frame of its edition to a station that is being set up; in SAE each car has another number of groups. */
+static void play(struct lahzavar_station *station, size_t edition, enum played which, const struct car *car)
 {
     uint8_t frame[FRAME_MOST], room[LAHZAVAR_LEAST_OUTPUT];
-    size_t length = which == 2 ? write_sound(frame, car, 3) : write_frame(frame, which, car);
+    size_t length;
+    if (which == PLAY_SOUND) {
+        length = write_sound(frame, car, 3);
+    } else if (edition == LAHZAVAR_SAE && which == PLAY_START) {
+        length = write_sae_start(frame, car, first_try);
+    } else if (edition == LAHZAVAR_SAE && which == PLAY_PROFILE) {
+        length = write_sae_profile(frame, modem, us, car->address, car->address[5] * 3u, (unsigned)below(256));
+    } else {
+        length = write_frame(frame, which, car);
+    }
     (void)lahzavar_station_frame(station, frame, length, room, sizeof room);
 }
 
 /* A station in Matching, its records as far as they come: asked, sounding, reported, awaiting. */
-static void set_up_records(struct lahzavar_station *station, size_t count)
+static void set_up_records(struct lahzavar_station *station, size_t edition, size_t count)
 {
     size_t car, profile;
     for (car = 0; car < count; car++) {
-        play(station, 0, &cars[car]);
+        play(station, edition, PLAY_REQUEST, &cars[car]);
         for (profile = 0; profile < 3 * car; profile++) {
-            play(station, profile == 0 ? 1 : profile == 1 ? 2 : 3, &cars[car]);
+            play(station, edition, profile == 0 ? PLAY_START : profile == 1 ? PLAY_SOUND : PLAY_PROFILE, &cars[car]);
         }
         if (car >= 4) {
-            play(station, 4, &cars[car]);
+            play(station, edition, PLAY_RESPONSE, &cars[car]);
         }
     }
 }
@@ -269,13 +314,13 @@ static void set_up_validation(struct lahzavar_station *station, size_t stage)
     size_t length = write_validate_req(frame, &cars[4], us, 0);
     uint32_t confirmed = lahzavar_station_frame(station, frame, length, room, sizeof room).frames;
     if (stage >= 8) {
-        length = write_validate_req(frame, &cars[4], broadcast_address, 1);
+        length = write_validate_req(frame, &cars[4], broadcast_address, 0);
         confirmed += lahzavar_station_frame(station, frame, length, room, sizeof room).refusal == LAHZAVAR_ACCEPTED;
         (void)lahzavar_station_pilot(station, LAHZAVAR_PILOT_C, 1000);
     }
     if (stage >= 9) {
         (void)lahzavar_station_pilot(station, LAHZAVAR_PILOT_B, 1000);
-        confirmed += lahzavar_station_tick(station, 1200, room, sizeof room).frames;
+        confirmed += lahzavar_station_tick(station, 1100, room, sizeof room).frames;
     }
     if (confirmed != stage - 6) {
         fail("a stage in another phase");
@@ -283,9 +328,30 @@ static void set_up_validation(struct lahzavar_station *station, size_t stage)
 }
 
 /* The stages: fresh, plugged in with some records or all, reported, joining, matched, validating, badly configured. */
-static void set_up(void)
+static void set_up_stage(struct lahzavar_station *station, size_t edition, size_t at)
 {
     uint8_t room[LAHZAVAR_LEAST_OUTPUT];
+    uint64_t other = lahzavar_address(at == STAGES - 1 ? us : modem);
+    (void)lahzavar_station_configure(station, lahzavar_address(us), other, lahzavar_nid(nid), nmk, at == 3,
+                                     (enum lahzavar_edition)edition);
+    if (at > 0) {
+        (void)lahzavar_station_pilot(station, LAHZAVAR_PILOT_B, 1000);
+    }
+    set_up_records(station, edition, at == 2 ? 2 : at == 3 ? 4 : LAHZAVAR_RECORDS);
+    if (at == 4) {
+        (void)lahzavar_station_tick(station, 1600, room, sizeof room);
+    } else if (at == 5 || at == 6) {
+        play(station, edition, PLAY_MATCH, &cars[4]);
+    } else if (at >= 7 && at < STAGES - 1) {
+        set_up_validation(station, at);
+    }
+    if (at == 6 && lahzavar_station_link_up(station).indication != LAHZAVAR_LINK_ESTABLISHED) {
+        fail("a stage that is not matched");
+    }
+}
+
+static void set_up(void)
+{
     size_t at;
     make_zone(&whole);
     make_zone(&least);
@@ -295,21 +361,9 @@ static void set_up(void)
         cars[at] = model;
         cars[at].address[5] = (uint8_t)(at + 1);
     }
-    for (at = 0; at < STAGES; at++) {
-        uint64_t other = lahzavar_address(at == STAGES - 1 ? us : modem);
-        (void)lahzavar_station_configure(&stages[at], lahzavar_address(us), other, lahzavar_nid(nid), nmk, at == 3);
-        if (at > 0) {
-            (void)lahzavar_station_pilot(&stages[at], LAHZAVAR_PILOT_B, 1000);
-        }
-        set_up_records(&stages[at], at == 2 ? 2 : at == 3 ? 4 : LAHZAVAR_RECORDS);
-        if (at == 5 || at == 6) {
-            play(&stages[at], 5, &cars[4]);
-        } else if (at >= 7 && at < STAGES - 1) {
-            set_up_validation(&stages[at], at);
-        }
+    for (at = 0; at < EDITIONS * STAGES; at++) {
+        set_up_stage(&stages[at / STAGES][at % STAGES], at / STAGES, at % STAGES);
     }
-    (void)lahzavar_station_tick(&stages[4], 1600, room, sizeof room);
-    (void)lahzavar_station_link_up(&stages[6]);
 }
 
 int main(int count, char **arguments)

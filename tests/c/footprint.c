@@ -2,11 +2,11 @@
  * What a station's driver sets aside: the octets of a station and of the least output, and the stack that each call takes.
  * One line to a figure: its name, a tab, octets.
  *
- * The calls are those of one matching with every record held, each of which must be accepted, so that the long ways are
- * gone.
+ * The calls are those of one matching in each edition with every record held, each of which must be accepted, so that the
+ * long ways are gone. A figure is the greater one of both editions.
  */
 #define _GNU_SOURCE
-#include "car_frames.h"
+#include "sae_frames.h"
 #include "stack.h"
 
 static const uint8_t us[6] = {2, 0, 0, 0, 0, 0xAA};
@@ -15,6 +15,7 @@ static const uint8_t nid[7] = {1, 2, 3, 4, 5, 6, 7};
 static const uint8_t nmk[16] = {0x4B};
 
 static struct lahzavar_station station;
+static enum lahzavar_edition edition;
 static uint8_t out[LAHZAVAR_LEAST_OUTPUT];
 static uint8_t least[LAHZAVAR_GROUPS], greatest[LAHZAVAR_GROUPS];
 static uint8_t frame[FRAME_MOST];
@@ -25,8 +26,8 @@ static volatile uint32_t number;
 
 static void call_configure(void)
 {
-    answer =
-        lahzavar_station_configure(&station, lahzavar_address(us), lahzavar_address(modem), lahzavar_nid(nid), nmk, false);
+    answer = lahzavar_station_configure(&station, lahzavar_address(us), lahzavar_address(modem), lahzavar_nid(nid), nmk, false,
+                                        edition);
 }
 
 static void call_frame(void)
@@ -126,17 +127,24 @@ static struct car car_at(unsigned place)
     return car;
 }
 
-/* Every record asked for, started, sounding, with nine profiles each. */
+/* Twice, since the first start changes the phase. */
+static void measure_start(const struct car *car)
+{
+    size_t octets = edition == LAHZAVAR_SAE ? write_sae_start(frame, car, later_try) : write_start(frame, car);
+    measure_frame(octets);
+    measure_frame(octets);
+}
+
+/* Every record asked for twice, started, sounding, with one profile less than close it; in SAE that is a later try. */
 static void hold_all_records(void)
 {
-    unsigned place, profile;
+    unsigned place, profile, profiles = edition == LAHZAVAR_SAE ? 15 : 9;
     for (place = 0; place < LAHZAVAR_RECORDS; place++) {
         struct car car = car_at(place);
         measure_frame(write_parm_req(frame, &car));
         measure_frame(write_parm_req(frame, &car));
-        measure_frame(write_start(frame, &car));
-        measure_frame(write_start(frame, &car));
-        for (profile = 0; profile < 9; profile++) {
+        measure_start(&car);
+        for (profile = 0; profile < profiles; profile++) {
             measure_frame(write_sound(frame, &car, profile));
             measure_frame(write_profile(frame, modem, us, car.address, 255));
         }
@@ -146,7 +154,7 @@ static void hold_all_records(void)
 /* The tick that reports to every car. */
 static void measure_reports(void)
 {
-    reading += 600;
+    reading += edition == LAHZAVAR_SAE ? 1000 : 600;
     measure_aside(&figures[TICK]);
     has_frames(&figures[TICK], LAHZAVAR_RECORDS);
 }
@@ -166,7 +174,7 @@ static void measure_validation(unsigned place)
 }
 
 /*
- * A report by the tenth profile, its response, the validation and the match request of every car, and what follows the last
+ * A report by the last profile, its response, the validation and the match request of every car, and what follows the last
  * one.
  */
 static void measure_joining(void)
@@ -189,10 +197,11 @@ static void measure_joining(void)
     measure_aside(&figures[TICK]);
 }
 
-int main(void)
+/* One matching. */
+static void measure_edition(enum lahzavar_edition now)
 {
-    state = &station;
-    state_octets = sizeof station;
+    edition = now;
+    reading = 0;
     measure(&figures[CONFIGURE]);
     measure_pilot(LAHZAVAR_PILOT_E);
     measure_pilot(LAHZAVAR_PILOT_B);
@@ -202,6 +211,14 @@ int main(void)
     measure_reports();
     measure_joining();
     measure(&figures[WIPE]);
+}
+
+int main(void)
+{
+    state = &station;
+    state_octets = sizeof station;
+    measure_edition(LAHZAVAR_ISO);
+    measure_edition(LAHZAVAR_SAE);
     printf("a station\t%lu\n", (unsigned long)sizeof station);
     printf("a station's least output\t%lu\n", (unsigned long)sizeof out);
     print_figures(figures, CALLS);

@@ -34,9 +34,10 @@ struct zone {
 
 /* What an answer of one end can be. */
 struct limits {
-    uint32_t indication;                /* the highest number */
-    uint32_t frames;                    /* the most frames of a call */
-    size_t (*octets_of)(unsigned type); /* the octets of a frame that it sends; 0 for a type that it never does */
+    uint32_t indication; /* the highest number */
+    uint32_t frames;     /* the most frames of a call */
+    /* The octets of a frame that it sends, of which so many are there, 60 or more; 0 for one that it never does. */
+    size_t (*octets_of)(const uint8_t *frame, size_t there);
 };
 
 static struct zone words, sums, spread, octets, out;
@@ -170,7 +171,7 @@ static inline void check_frames(struct lahzavar_answer answer, const struct limi
         const uint8_t *frame = out.view + out.at + at;
         length = lahzavar_frame_octets(frame, answer.octets - at);
         if (length < FRAME_LEAST || memcmp(frame + 12, head, 3) != 0 ||
-            length != limits->octets_of(frame_type(frame, length))) {
+            length != limits->octets_of(frame, length)) {
             fail("a frame that this end never sends");
         }
         frames++;
@@ -231,10 +232,11 @@ static inline void check_configured(struct lahzavar_answer answer)
 /* One word, changed in one of several ways; the address is one that the end knows. */
 static inline uint64_t changed(uint64_t word, uint64_t address)
 {
-    static const uint64_t limits[] = {0,          1,          4,          7,          10,     13,         40,
-                                      100,        200,        256,        400,        600,    1200,       10000,
-                                      12000,      14790,      25600,      50000,      0xFFFF, 0xFFFFFFFF, 1ull << 32,
-                                      1ull << 47, 1ull << 48, 1ull << 54, 1ull << 63, ~0ull};
+    static const uint64_t limits[] = {0,          1,          4,          7,          10,     13,         16,
+                                      40,         58,         100,        200,        256,    400,        600,
+                                      1000,       1200,       10000,      12000,      14790,  25600,      50000,
+                                      0xFFFF,     0xFFFFFFFF, 1ull << 32, 1ull << 47, 1ull << 48, 1ull << 54,
+                                      1ull << 63, ~0ull};
     switch (below(5)) {
     case 0:
         return next_random();

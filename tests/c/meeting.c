@@ -11,12 +11,17 @@
  * With "exchanged" the modems name the car of bay 2 in the profiles of bay 1's, and the other way round, so that stations
  * report another car's sums.
  *
+ * With both editions some bays are of ISO 15118-3 and some of SAE J2931/4, whose cars are those of sae_car.h; there, the
+ * modem of each bay has a number of groups of its own. One bay of each edition has a car of the other one, which may not
+ * match, neither there nor anywhere else.
+ *
  * In the last scenario the car of bay 1 validates before it asks for the key: now and then it asks the station of bay 2
  * first, and always its own. With "crossed" it hangs on the cable of bay 2.
  */
 #include "car_frames.h"
 #include "lahzavar.h"
 #include "random.h"
+#include "sae_car.h"
 
 #include <stdio.h>
 #include <stdlib.h>
@@ -36,6 +41,7 @@
 #define TIMER_LEAST 4u      /* whose window is 100 ms times the timer and one more */
 #define TIMER_MOST 40u
 #define PATIENCE 300u /* how long a car waits for a station's answer, from when it is due */
+#define SAE_LIMIT 20u /* an SAE car asks no station with a mean of so many dB over its reference, as the library's car does */
 
 /* The fifth octet of an address; the last one is the bay. */
 enum side { CAR = 1, STATION = 2, MODEM = 3 };
@@ -69,6 +75,9 @@ struct bay {
     uint32_t station_clock, car_clock; /* their readings at time 0 */
     uint32_t plug_in_at, start_at, link_at, first_start;
     unsigned starts, joined; /* how often the car has started, and the bay whose station it joins */
+    enum lahzavar_edition edition, car_edition;
+    unsigned groups;    /* of the profiles of an SAE station's modem */
+    struct sae_car sae; /* in place of `car`, where it is of that edition */
 };
 
 struct frame {
@@ -105,6 +114,8 @@ struct tally {
     unsigned matchings, wrong_bays, not_joined, starts, starts_least, starts_most;
     uint32_t time_least, time_most;
     uint64_t time;
+    unsigned sae, sae_later; /* matchings of SAE cars, and those of them in a later try */
+    unsigned other_starts;   /* of cars at a station of the other edition */
 };
 
 /* One run of a scenario. */
@@ -115,7 +126,7 @@ struct line {
     struct validations validations;
     struct validator validator;
     uint64_t seed;
-    int exchanged, crossed;
+    int exchanged, crossed, mixed; /* mixed: there are bays of both editions */
     unsigned reference, car_tick, station_tick, linked;
     uint32_t now, delay;
     struct bay bays[BAYS];
@@ -163,12 +174,32 @@ static void fill(uint8_t *octets, size_t count)
     }
 }
 
-/* Both ends can read what the other one writes; they refuse what is for others, or comes at another time. */
+/*
+ * Both ends can read what the other one writes; they refuse what is for others, or comes at another time. With both editions
+ * they can't read all of it: a report of fewer groups is too short in the ISO edition. A car may also hear of another try.
+ */
 static void check_refusal(const struct line *line, unsigned bay, uint32_t refusal)
 {
     int usual = refusal == LAHZAVAR_ACCEPTED || (refusal >= LAHZAVAR_NOT_FOR_US && refusal <= LAHZAVAR_WRONG_PHASE) ||
                 (refusal >= LAHZAVAR_ONLY_FOR_CARS && refusal <= LAHZAVAR_ONLY_FOR_STATIONS);
-    require(line, bay, usual, lahzavar_refusal_text(refusal));
+    int mixed = refusal == LAHZAVAR_TOO_SHORT || refusal == LAHZAVAR_BAD_OCTET || refusal == LAHZAVAR_OTHER_TRY;
+    require(line, bay, usual || (line->mixed && mixed), lahzavar_refusal_text(refusal));
+}
+
+static int is_sae(const struct line *line, unsigned bay)
+{
+    return line->bays[bay].edition == LAHZAVAR_SAE;
+}
+
+static int has_sae_car(const struct line *line, unsigned bay)
+{
+    return line->bays[bay].car_edition == LAHZAVAR_SAE;
+}
+
+/* Whether a bay's car and station are of one edition, so that they can match. */
+static int can_match(const struct line *line, unsigned bay)
+{
+    return is_sae(line, bay) == has_sae_car(line, bay);
 }
 
 /* Puts a frame on the line. */
@@ -182,18 +213,32 @@ static void send_frame(struct line *line, unsigned bay, const uint8_t *octets, s
     line->put++;
 }
 
+/* A report goes to a car of the station's edition, and has the groups of its modem. */
+static void check_report(const struct line *line, unsigned bay, const uint8_t *report, size_t length)
+{
+    size_t groups = is_sae(line, bay) ? line->bays[bay].groups : LAHZAVAR_GROUPS;
+    require(line, bay, has_sae_car(line, report[5]) == is_sae(line, bay), "the station reports to a car of the other edition");
+    require(line, bay, report[FRAME_HEAD + 51] == groups && length == 71 + groups, "the report has other groups");
+}
+
 /* Puts the frames of an answer on the line; a station's key goes to its own car, unless any bay will do. */
 static void send_frames(struct line *line, unsigned bay, struct lahzavar_answer answer, const uint8_t *out)
 {
     size_t at, length;
+    uint32_t frames = 0;
     check_refusal(line, bay, answer.refusal);
     for (at = 0; at < answer.octets; at += length) {
         length = lahzavar_frame_octets(out + at, answer.octets - at);
         send_frame(line, bay, out + at, length);
+        frames++;
+        if (frame_type(out + at, length) == CM_ATTEN_CHAR_IND) {
+            check_report(line, bay, out + at, length);
+        }
         if (frame_type(out + at, length) == CM_SLAC_MATCH_CNF && line->scenario->demand != ANY_BAY) {
             require(line, bay, is_address(out + at, CAR, bay), "the station gives its key to another bay's car");
         }
     }
+    require(line, bay, frames == answer.frames, "the answer has another number of frames than it says");
 }
 
 /* A station's matching that ends without a link begins anew. */
@@ -234,6 +279,7 @@ static void take_key(struct line *line, unsigned bay)
     require(line, bay, own->joined < line->scenario->bays && is_address(key.station, STATION, own->joined),
             "the car joins no station of the line");
     require(line, bay, own->joined == bay || line->scenario->demand == ANY_BAY, "the car joins another bay's station");
+    require(line, bay, !is_sae(line, own->joined), "the car joins a station of the other edition");
     joined = &line->bays[own->joined];
     require(line, bay, memcmp(key.nid, joined->nid, 7) == 0 && memcmp(key.nmk, joined->nmk, 16) == 0,
             "the car's key is not the station's");
@@ -254,6 +300,55 @@ static void obey_car(struct line *line, unsigned bay, struct lahzavar_answer ans
     }
     if (answer.indication == LAHZAVAR_KEY_GIVEN) {
         take_key(line, bay);
+    }
+}
+
+/* A key that an SAE car was given is that of the station it has asked, its own, with the identifiers of its request. */
+static void take_sae_key(struct line *line, unsigned bay, const uint8_t *frame, size_t length)
+{
+    struct bay *own = &line->bays[bay];
+    uint8_t station[6], expected[FRAME_MOST];
+    address_of(STATION, bay, station);
+    require(line, bay, own->sae.step == SAE_REQUESTING && is_sae(line, bay), "the car has asked for no key");
+    require(line, bay, memcmp(own->sae.chosen, station, 6) == 0, "the car joins another bay's station");
+    require(line, bay,
+            length == write_sae_match_cnf(expected, &own->sae.car, own->sae.chosen, own->sae.ids, own->nid, own->nmk) &&
+                memcmp(frame, expected, length) == 0,
+            "the key's frame is not the answer to the car's request");
+    require(line, bay, lahzavar_station_state(&own->station) == LAHZAVAR_JOINING, "the station is not joining");
+    own->sae.step = SAE_JOINED;
+    own->joined = bay;
+    own->link_at = line->now + between(100, 3000);
+    line->tally.sae++;
+    line->tally.sae_later += memcmp(own->sae.values, later_try, 2) == 0;
+    count_matching(&line->tally, own->starts, line->now - own->first_start, 0);
+}
+
+/* What an SAE car does with a frame. */
+static void give_sae_car(struct line *line, unsigned bay, const uint8_t *octets, size_t length)
+{
+    uint8_t frame[FRAME_MOST];
+    size_t reply = sae_car_hear(&line->bays[bay].sae, octets, length, line->now, frame);
+    if (reply > 0) {
+        send_frame(line, bay, frame, reply);
+    }
+    if (is_address(octets, CAR, bay) && frame_type(octets, length) == CM_SLAC_MATCH_CNF) {
+        take_sae_key(line, bay, octets, length);
+    }
+}
+
+/* What is due of an SAE car; a matching that fails begins anew after a pause. */
+static void turn_sae_car(struct line *line, unsigned bay)
+{
+    struct bay *own = &line->bays[bay];
+    uint8_t frame[FRAME_MOST];
+    enum sae_step before = own->sae.step;
+    size_t length = sae_car_turn(&own->sae, line->now, frame);
+    if (length > 0) {
+        send_frame(line, bay, frame, length);
+    }
+    if (own->sae.step == SAE_FAILED && before != SAE_FAILED) {
+        own->start_at = line->now + between(PAUSE_LEAST, PAUSE_MOST);
     }
 }
 
@@ -420,6 +515,10 @@ static void give_car(struct line *line, unsigned bay, const uint8_t *octets, siz
         give_validator(line, octets, length);
         return;
     }
+    if (has_sae_car(line, bay)) {
+        give_sae_car(line, bay, octets, length);
+        return;
+    }
     obey_car(line, bay, lahzavar_car_frame(&line->bays[bay].car, octets, length, out, sizeof out), out);
 }
 
@@ -429,13 +528,13 @@ static void give_profile(struct line *line, unsigned bay, unsigned car)
     uint8_t modem[6], station[6], named[6], frame[FRAME_MOST];
     uint8_t *values = frame + FRAME_HEAD + 8;
     uint64_t chance = next_random();
-    unsigned group;
+    unsigned group, groups = is_sae(line, bay) ? line->bays[bay].groups : LAHZAVAR_GROUPS;
     size_t length;
     address_of(MODEM, bay, modem);
     address_of(STATION, bay, station);
     address_of(CAR, line->exchanged && car < 2 ? 1 - car : car, named);
-    length = write_profile(frame, modem, station, named, line->bays[car].attenuation[bay]);
-    for (group = 0; group < LAHZAVAR_GROUPS; group++) {
+    length = write_sae_profile(frame, modem, station, named, groups, line->bays[car].attenuation[bay]);
+    for (group = 0; group < groups; group++) {
         values[group] = (uint8_t)(values[group] + (chance >> group & VARIATION));
     }
     give_station(line, bay, frame, length);
@@ -485,7 +584,7 @@ static void configure_station(struct line *line, unsigned bay)
     fill(own->nmk, 16);
     own->nid[6] &= 0x3F;
     answer = lahzavar_station_configure(&own->station, lahzavar_address(us), lahzavar_address(modem), lahzavar_nid(own->nid),
-                                        own->nmk, false);
+                                        own->nmk, is_sae(line, bay), own->edition);
     check_refusal(line, bay, answer.refusal);
 }
 
@@ -515,6 +614,11 @@ static void start(struct line *line, unsigned bay)
     own->first_start = own->starts == 0 ? line->now : own->first_start;
     own->starts++;
     own->start_at = NEVER;
+    line->tally.other_starts += !can_match(line, bay);
+    if (has_sae_car(line, bay)) {
+        send_frame(line, bay, out, sae_car_start(&own->sae, line->now, out));
+        return;
+    }
     fill(run, 8);
     fill(random, 16);
     obey_car(line, bay, lahzavar_car_start(&own->car, run, random, reading, out, sizeof out), out);
@@ -524,15 +628,15 @@ static void start(struct line *line, unsigned bay)
 static int is_matched(const struct line *line, unsigned bay)
 {
     const struct bay *own = &line->bays[bay];
-    return lahzavar_car_state(&own->car) == LAHZAVAR_CAR_MATCHED &&
-           lahzavar_station_state(&line->bays[own->joined].station) == LAHZAVAR_MATCHED;
+    int joined = has_sae_car(line, bay) ? own->sae.step == SAE_JOINED : lahzavar_car_state(&own->car) == LAHZAVAR_CAR_MATCHED;
+    return joined && lahzavar_station_state(&line->bays[own->joined].station) == LAHZAVAR_MATCHED;
 }
 
 /* The modems of a car and of its station have a link. */
 static void link_up(struct line *line, unsigned bay)
 {
     struct bay *own = &line->bays[bay];
-    uint32_t car = lahzavar_car_link_up(&own->car).indication;
+    uint32_t car = has_sae_car(line, bay) ? LAHZAVAR_LINK_ESTABLISHED : lahzavar_car_link_up(&own->car).indication;
     uint32_t station = lahzavar_station_link_up(&line->bays[own->joined].station).indication;
     own->link_at = NEVER;
     require(line, bay, car == LAHZAVAR_LINK_ESTABLISHED && station == LAHZAVAR_LINK_ESTABLISHED, "one end has no link");
@@ -571,6 +675,7 @@ static void tick(struct line *line)
         if (car_reading % line->car_tick == 0 && car != LAHZAVAR_CAR_IDLE && car != LAHZAVAR_CAR_MATCHED) {
             obey_car(line, bay, lahzavar_car_tick(&own->car, car_reading, out, sizeof out), out);
         }
+        turn_sae_car(line, bay);
     }
 }
 
@@ -644,18 +749,24 @@ static void draw(struct line *line)
     } while (line->scenario->plugging == ONE_BY_ONE && !has_records_left(line));
 }
 
-/* Runs until every car has a link, or the limit; all cars are matched then, unless any bay will do. */
-static void run(struct line *line)
+/* Runs until so many cars have a link, or the limit. */
+static void run_until(struct line *line, unsigned linked)
 {
-    unsigned bays = line->scenario->bays, bay;
-    for (; line->linked < bays && line->now < LIMIT; line->now++) {
+    for (; line->linked < linked && line->now < LIMIT; line->now++) {
         do_what_is_due(line);
         tick(line);
         deliver_due(line);
     }
+}
+
+/* Runs until every car has a link that can; all these cars are matched then, unless any bay will do. */
+static void run(struct line *line)
+{
+    unsigned bays = line->scenario->bays, bay;
+    run_until(line, line->mixed ? bays - 2 : bays);
     for (bay = 0; bay < bays; bay++) {
         int matched = is_matched(line, bay);
-        require(line, bay, matched || line->scenario->demand == ANY_BAY, "the car has not joined");
+        require(line, bay, matched || line->scenario->demand == ANY_BAY || !can_match(line, bay), "the car has not joined");
         line->tally.not_joined += !matched;
     }
 }
@@ -669,6 +780,10 @@ static void print(const struct line *line)
     if (line->scenario->demand == ANY_BAY) {
         printf("; %u in a wrong bay, %u not joined", tally->wrong_bays, tally->not_joined);
     }
+    if (line->mixed) {
+        printf("; %u of SAE cars, %u of them in a later try; cars of the other edition started %u times in vain", tally->sae,
+               tally->sae_later, tally->other_starts);
+    }
     printf("\n");
     fflush(stdout);
 }
@@ -677,7 +792,7 @@ static void print(const struct line *line)
 static void set_up(struct line *line, const struct scenario *scenario)
 {
     static const char *const pluggings[] = {"in groups", "too many at once", "all at once", "one by one", "at any time"};
-    static const struct tally nothing = {0, 0, 0, 0, 0, 0, 0, 0, 0};
+    static const struct tally nothing;
     line->scenario = scenario;
     line->tally = nothing;
     snprintf(line->title, sizeof line->title,
@@ -702,6 +817,56 @@ static void try_scenario(struct line *line, const struct scenario *scenario, uin
         }
     }
     print(line);
+}
+
+/* Draws a run with both editions; of the last two bays each has a car of the other one. */
+static void draw_editions(struct line *line)
+{
+    unsigned bays = line->scenario->bays, bay;
+    draw(line);
+    for (bay = 0; bay < bays; bay++) {
+        struct bay *own = &line->bays[bay];
+        own->edition = bay % 2 == 0 ? LAHZAVAR_ISO : LAHZAVAR_SAE;
+        own->car_edition = bay < bays - 2 ? own->edition : bay % 2 == 0 ? LAHZAVAR_SAE : LAHZAVAR_ISO;
+        own->groups = between(1, LAHZAVAR_GROUPS);
+        own->sae.limit = line->reference + SAE_LIMIT;
+        address_of(CAR, bay, own->sae.car.address);
+    }
+}
+
+/* Where nothing is lost and no station was of another try than the others, the first start of a car succeeds. */
+static void check_first_starts(const struct line *line)
+{
+    unsigned bay;
+    for (bay = 0; bay < line->scenario->bays; bay++) {
+        const struct bay *own = &line->bays[bay];
+        int may_fail = line->scenario->lost > 0 || own->sae.tries_differed || !can_match(line, bay);
+        require(line, bay, own->starts == 1 || may_fail, "the car's first start fails");
+    }
+}
+
+/* Runs a scenario with both editions with each seed, and with ticks up to the longest that an SAE station may have. */
+static void try_editions(struct line *line, const struct scenario *scenario, uint64_t seeds, uint64_t seed)
+{
+    static const unsigned ticks[3] = {1, 5, 10};
+    unsigned at;
+    set_up(line, scenario);
+    line->mixed = 1;
+    snprintf(line->title, sizeof line->title, "%u bays of both editions, at two of them a car of the other, %u %% lost",
+             scenario->bays, scenario->lost);
+    for (line->seed = seed; line->seed < seed + seeds; line->seed++) {
+        for (at = 0; at < 6; at++) {
+            random_state = line->seed << 8 | at;
+            line->reference = at % 2 == 0 ? 26 : 0;
+            line->car_tick = 5;
+            line->station_tick = ticks[at / 2];
+            draw_editions(line);
+            run(line);
+            check_first_starts(line);
+        }
+    }
+    print(line);
+    line->mixed = 0;
 }
 
 /* Draws a run with a car that validates; the other one starts before, meanwhile or never. */
@@ -774,6 +939,11 @@ int main(int count, char **arguments)
         {10, {1, 1}, {7, 12}, ONE_BY_ONE, 20, ANY_BAY},
         {BAYS, {1, 6}, {12, 40}, TOO_MANY, 0, ANY_BAY},
     };
+    static const struct scenario mixed[] = {
+        {10, {1, 16}, {20, 40}, AT_ANY_TIME, 0, OWN_BAY},
+        {10, {1, 16}, {20, 40}, AT_ANY_TIME, 5, OWN_BAY},
+        {10, {1, 16}, {20, 40}, AT_ANY_TIME, 20, OWN_BAY},
+    };
     static struct line line;
     uint64_t seeds = count > 1 ? strtoull(arguments[1], NULL, 10) : 1;
     uint64_t seed = count > 2 ? strtoull(arguments[2], NULL, 10) : 1;
@@ -782,6 +952,9 @@ int main(int count, char **arguments)
     line.crossed = count > 3 && strcmp(arguments[3], "crossed") == 0;
     for (at = 0; at < (line.exchanged ? 1 : line.crossed ? 0 : most) && seeds > 0; at++) {
         try_scenario(&line, &scenarios[at], seeds, seed);
+    }
+    for (at = 0; at < (line.exchanged || line.crossed ? 0 : sizeof mixed / sizeof *mixed) && seeds > 0; at++) {
+        try_editions(&line, &mixed[at], seeds, seed);
     }
     if (!line.exchanged && seeds > 0) {
         try_validation(&line, seeds, seed);

@@ -6,7 +6,7 @@
 int main(void)
 {
     unsigned number;
-    for (number = 0; number <= 23; number++) {
+    for (number = 0; number <= LAHZAVAR_LAST_REFUSAL + 2; number++) {
         printf("%u %s\n", number, lahzavar_refusal_text(number));
     }
     return 0;

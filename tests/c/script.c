@@ -10,13 +10,15 @@ static void configure(void)
     struct lahzavar_answer answer;
     uint8_t us[6], modem[6], nid[7], nmk[16];
     bool validation_not_required;
+    enum lahzavar_edition edition;
     take(us, 6);
     take(modem, 6);
     take(nid, 7);
     take(nmk, 16);
     validation_not_required = take_setting();
+    edition = take_setting() ? LAHZAVAR_SAE : LAHZAVAR_ISO;
     answer = lahzavar_station_configure(&station, lahzavar_address(us), lahzavar_address(modem), lahzavar_nid(nid), nmk,
-                                        validation_not_required);
+                                        validation_not_required, edition);
     put_number(answer.refusal);
 }
 

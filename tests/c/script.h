@@ -39,7 +39,7 @@ static inline uint32_t take_number(void)
     return (uint32_t)four[0] | (uint32_t)four[1] << 8 | (uint32_t)four[2] << 16 | (uint32_t)four[3] << 24;
 }
 
-/* A setting of the head: 1 for yes, 0 for no. */
+/* A setting of the head: 1 for yes, 0 for no; of the edition, 1 for SAE, 0 for ISO. */
 static inline bool take_setting(void)
 {
     uint32_t number = take_number();

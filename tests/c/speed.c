@@ -7,10 +7,12 @@
  *   speed tick           nanoseconds of a tick that reports to every car: median and longest of 1001
  *   speed one-tick       that tick once, to count instructions in run_tick
  *   speed size           octets of a station
+ *
+ * With one more word, `sae`, the station is of the SAE edition, as the input then has to be; without it, of the ISO one.
  */
 #define _POSIX_C_SOURCE 200809L
-#include "car_frames.h"
 #include "lahzavar.h"
+#include "sae_frames.h"
 
 #include <stdio.h>
 #include <stdlib.h>
@@ -23,6 +25,7 @@ static const uint8_t modem[6] = {2, 0, 0, 0, 0, 0xBB};
 static const uint8_t nid[7] = {1, 2, 3, 4, 5, 6, 7};
 static const uint8_t nmk[16] = {0x4B};
 static struct lahzavar_station station;
+static enum lahzavar_edition edition = LAHZAVAR_ISO;
 static uint8_t out[LAHZAVAR_LEAST_OUTPUT];
 static uint8_t *input;
 static size_t input_length;
@@ -34,7 +37,8 @@ void run_tick(uint32_t reading) __attribute__((noinline));
 
 static void plug_in(void)
 {
-    (void)lahzavar_station_configure(&station, lahzavar_address(us), lahzavar_address(modem), lahzavar_nid(nid), nmk, false);
+    (void)lahzavar_station_configure(&station, lahzavar_address(us), lahzavar_address(modem), lahzavar_nid(nid), nmk, false,
+                                     edition);
     (void)lahzavar_station_pilot(&station, LAHZAVAR_PILOT_B, 0);
 }
 
@@ -126,17 +130,19 @@ static void measure_frames(void)
     printf("%.2f\n", (double)(clock_now() - start) / (double)frames);
 }
 
-/* A station with every record held, nine profiles counted in each. */
+/* A station with every record held, one profile less counted in each than close it: nine, or in a first try of SAE seven. */
 static void hold_all_records(void)
 {
     uint8_t frame[FRAME_MOST];
-    unsigned car, profile;
+    unsigned car, profile, profiles = edition == LAHZAVAR_SAE ? 7 : 9;
     plug_in();
     for (car = 1; car <= LAHZAVAR_RECORDS; car++) {
         struct car one = {{2, 0, 0, 0, 0, (uint8_t)car}, {(uint8_t)car}};
+        size_t start;
         (void)lahzavar_station_frame(&station, frame, write_parm_req(frame, &one), out, sizeof out);
-        (void)lahzavar_station_frame(&station, frame, write_start(frame, &one), out, sizeof out);
-        for (profile = 0; profile < 9; profile++) {
+        start = edition == LAHZAVAR_SAE ? write_sae_start(frame, &one, first_try) : write_start(frame, &one);
+        (void)lahzavar_station_frame(&station, frame, start, out, sizeof out);
+        for (profile = 0; profile < profiles; profile++) {
             size_t length = write_profile(frame, modem, us, one.address, 200 + profile);
             (void)lahzavar_station_frame(&station, frame, length, out, sizeof out);
         }
@@ -190,6 +196,10 @@ static int read_input(const char *name)
 int main(int count, char **arguments)
 {
     const char *what = count > 1 ? arguments[1] : "";
+    if (count > 2 && strcmp(arguments[count - 1], "sae") == 0) {
+        edition = LAHZAVAR_SAE;
+        count--;
+    }
     plug_in();
     if (count > 2 && !read_input(arguments[2])) {
         fprintf(stderr, "no input in %s\n", arguments[2]);

@@ -12,6 +12,7 @@
  */
 #define _GNU_SOURCE
 #include "line.h"
+#include "sae_frames.h"
 
 #include <getopt.h>
 
@@ -30,9 +31,10 @@ static uint8_t us[6];
 static uint8_t modem[6] = {2, 0, 0, 0, 0, 0xBB};
 static uint8_t nid[7] = {1, 2, 3, 4, 5, 6, 7};
 static uint8_t nmk[16] = {0x4B, 0x4B, 0x4B, 0x4B, 0x4B, 0x4B, 0x4B, 0x4B, 0x4B, 0x4B, 0x4B, 0x4B, 0x4B, 0x4B, 0x4B, 0x4B};
-static unsigned long attenuation = 20, link_after = 1000, key_result = 0;
+static unsigned long attenuation = 20, groups = LAHZAVAR_GROUPS, link_after = 1000, key_result = 0;
 static int once = 0, station_given = 0, typing = 1;
 static bool validation_not_required = false;
+static enum lahzavar_edition edition = LAHZAVAR_ISO;
 static struct change changes[CHANGES];
 static size_t change_count, changed; /* how many there are, and how many of them have been made */
 static uint32_t confirmed_at, ended_at;
@@ -47,6 +49,8 @@ static void usage(void)
                     "  --nid HEX           network ID, 14 digits, low octet first (01020304050607)\n"
                     "  --nmk HEX           network membership key, 32 digits (4B4B..)\n"
                     "  --attenuation N     the value in every group of a profile (20)\n"
+                    "  --sae               the SAE edition, in place of the ISO one\n"
+                    "  --groups N          the groups of a profile, 1 to 58; the ISO edition takes no others than 58 (58)\n"
                     "  --link-after MS     link up so long after CM_SLAC_MATCH.CNF (1000)\n"
                     "  --key-result N      the result octet of CM_SET_KEY.CNF (0)\n"
                     "  --for-pev           what the program pev of open-plc-utils needs: --key-result 1\n"
@@ -118,14 +122,14 @@ static void receive(const uint8_t *frame, size_t length)
     }
     give(frame, length);
     if (type == CM_MNBC_SOUND_IND) {
-        give(profile, write_profile(profile, modem, us, frame + 6, (unsigned)attenuation));
+        give(profile, write_sae_profile(profile, modem, us, frame + 6, (unsigned)groups, (unsigned)attenuation));
     }
 }
 
 static void plug_in(void)
 {
     struct lahzavar_answer answer = lahzavar_station_configure(&station, lahzavar_address(us), lahzavar_address(modem),
-                                                               lahzavar_nid(nid), nmk, validation_not_required);
+                                                               lahzavar_nid(nid), nmk, validation_not_required, edition);
     if (answer.refusal != LAHZAVAR_ACCEPTED) {
         fprintf(stderr, "bad configuration: two different unicast addresses, and a NID below 2^54\n");
         exit(2);
@@ -253,6 +257,14 @@ static void read_changes(const char *name)
     fclose(file);
 }
 
+static void read_groups(void)
+{
+    groups = strtoul(optarg, NULL, 10);
+    if (groups == 0 || groups > LAHZAVAR_GROUPS) {
+        usage();
+    }
+}
+
 static void read_option(int option)
 {
     switch (option) {
@@ -287,6 +299,12 @@ static void read_option(int option)
     case 'n':
         validation_not_required = true;
         break;
+    case 'e':
+        edition = LAHZAVAR_SAE;
+        break;
+    case 'g':
+        read_groups();
+        break;
     case 'o':
         once = 1;
         break;
@@ -301,6 +319,7 @@ static const struct option long_options[] = {
     {"attenuation", required_argument, NULL, 'a'}, {"link-after", required_argument, NULL, 'l'},
     {"key-result", required_argument, NULL, 'r'},  {"for-pev", no_argument, NULL, 'p'},
     {"pilot-from", required_argument, NULL, 'f'},  {"validation-not-required", no_argument, NULL, 'n'},
+    {"sae", no_argument, NULL, 'e'},               {"groups", required_argument, NULL, 'g'},
     {"once", no_argument, NULL, 'o'},              {NULL, 0, NULL, 0}};
 
 int main(int count, char **arguments)
