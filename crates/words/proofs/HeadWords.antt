@@ -2,12 +2,12 @@
 use Prim.Native.Nat.{ℕ, _*_, _^_, _≤_, _<_, _%_}
 use mathlib.Core.Path.{_≡_, refl, sym, ap, ap₂, subst, _∙_}
 use mathlib.Core.Bool.{true, _&&_}
-use mathlib.Core.List.{List}
+use mathlib.Core.List.{List, zipWith}
 use native.Mathlib.Omega.{arith}
 use borrow.Author.Tests.{lt-ltb, ne-eqb}
 use lib.Dec.{eqb}
-use lib.ListN.{length, getD, set}
-use lib.Seq.{sets, set-out}
+use lib.ListN.{length, getD, drop, set}
+use lib.Seq.{sets, sets-eq, set-out}
 use Rattle.messages.specs.Table.{groupCount}
 use Rattle.messages.specs.declared.Edition.{Edition}
 use Rattle.messages.specs.declared.Edition.the-variants.{Iso, Sae}
@@ -22,9 +22,9 @@ use Rattle.rules.specs.Constants.{recordCount}
 use Rattle.rules.specs.Invariant.{GoodRecord, GoodConfiguration, Invariant}
 use Rattle.ends.specs.Lists.{All}
 use Rattle.rules.specs.Rules.{isGood}
-use Rattle.words.specs.Words.{headCount, wordCount, sumCount, spreadWidth, spreadCount, recordsOf, configOf, editionIn, stateBy, stateOf, stationOf, withRecords}
+use Rattle.words.specs.Words.{headCount, width, wordCount, sumCount, spreadWidth, spreadCount, recordOf, sumRuns, spreadRuns, given, recordsOf, configOf, editionIn, stateBy, stateOf, stationOf, withRecords, inState}
 use Rattle.rules.specs.Numbers.{pilotOf, editionOf}
-use Rattle.ends.specs.Words.{flagOf}
+use Rattle.ends.specs.Words.{flagOf, runs}
 use Rattle.words.specs.Written.{stateNumber, stateTime, stateCar, stateRun, pilotNumber, editionNumber, wordsOf, spreadOctets, headOf}
 use Rattle.ends.proofs.RunLaws.{getD-before, getD-front}
 use Rattle.words.proofs.CopyLaws.{Sized, length-spread}
@@ -38,7 +38,7 @@ abbrev pub SameHead : List ℕ → List ℕ → Type 0
 SameHead v w = (j : ℕ) → j < headCount → getD v j 0 ≡ getD w j 0
 
 module _ (v w : List ℕ) (e : SameHead v w) where
-  config-same : configOf v ≡ configOf w
+  pub config-same : configOf v ≡ configOf w
   unfolding configOf
   config-same = rw (e 0 (omega arith), e 1 (omega arith), e 2 (omega arith), e 3 (omega arith), e 4 (omega arith), e 5 (omega arith), e 12 (omega arith), e 13 (omega arith))
 
@@ -136,3 +136,22 @@ module _ (z : Station) (w v : List ℕ) (l : headCount ≤ length w) (e : v ≡ 
       f
       ∙ ap (λ (u : Station). withRecords u (z .records)) (station-same v head same-head s x s x (recordsOf v s x) refl)
       ∙ station-back z s x g h k
+
+  -- the records behind it are as they were
+  behind : z .config .edition ≡ editionIn w → (s x : List ℕ) → recordsOf v s x ≡ recordsOf w s x
+  unfolding recordsOf configOf headOf
+  behind f s x =
+      let d : drop headCount v ≡ drop headCount w = ap (drop headCount) (e ∙ sets-eq (headOf (z .config) (z .state) (z .pilot) (z .clock)) w 0 l) in
+      let same : editionIn v ≡ editionIn w = ap editionOf (same-head 13 (omega arith)) ∙ edition-back (z .config .edition) ∙ f in
+      λ i. zipWith given (zipWith (recordOf (same i)) (runs recordCount width (d i)) (sumRuns s)) (spreadRuns x)
+
+  -- so that with them it is the station
+  put-back : (s x : List ℕ) → z .config .edition ≡ editionIn w → z .records ≡ recordsOf w s x → GoodConfiguration (z .config) → stateTime (z .state) < 2 ^ 32 → z .clock < 2 ^ 32 → stationOf v s x ≡ z
+  unfolding stationOf
+  put-back s x f r g h k = packed s x (stationOf v s x) g h k (ap (withRecords (stationOf v s x)) (behind f s x ∙ sym r))
+
+-- another state stored, with the pilot state and the clock
+pub state-put : (w v s x : List ℕ) (o : Configuration) (st : State) (p : Pilot) (n : ℕ) → headCount ≤ length w → o ≡ configOf w → v ≡ sets w 0 (headOf o st p n)
+    → GoodConfiguration (stationOf w s x .config) → stateTime st < 2 ^ 32 → n < 2 ^ 32 → stationOf v s x ≡ inState st p n (stationOf w s x)
+unfolding stationOf
+state-put w v s x o st p n l c e = put-back (inState st p n (stationOf w s x)) w v l (e ∙ ap (λ (q : Configuration). sets w 0 (headOf q st p n)) c) s x refl refl

@@ -1,6 +1,7 @@
 pub mod CopyLaws
 pub mod RecordWords
 pub mod HeadWords
+pub mod FreeLaws
 pub mod Meant
 pub mod PhaseLaws
 pub mod SearchLaws

@@ -10,6 +10,7 @@ use Rattle.messages.specs.declared.Edition.the-variants.{Iso, Sae}
 use Rattle.messages.specs.Table.{groupCount, isUnicast}
 use Rattle.rules.specs.declared.Configuration.{Configuration}
 use Rattle.rules.specs.declared.Phase.{Phase}
+use Rattle.rules.specs.declared.Pilot.{Pilot}
 use Rattle.rules.specs.declared.Phase.the-variants.{Asked, Sounding, Reported, Awaiting, Ready, Counting, Success}
 use Rattle.rules.specs.declared.Record.{Record}
 use Rattle.rules.specs.declared.Spread.{Spread}
@@ -80,6 +81,14 @@ stateBy k t car run =
 -- the state
 abbrev pub stateOf : List ℕ → State
 stateOf w = stateBy (getD w 6 0) (getD w 7 0) (getD w 8 0) (getD w 9 0)
+
+-- the pilot state
+abbrev pub pilotIn : List ℕ → Pilot
+pilotIn w = pilotOf (getD w 10 0)
+
+-- the clock
+abbrev pub clockIn : List ℕ → ℕ
+clockIn w = getD w 11 0 % 2 ^ 32
 
 -- ---- a record
 
@@ -206,11 +215,15 @@ unfoldable pub stationOf : List ℕ → List ℕ → List ℕ → Station
 stationOf w s x = record {
   config = configOf w;
   state = stateOf w;
-  pilot = pilotOf (getD w 10 0);
-  clock = getD w 11 0 % 2 ^ 32;
+  pilot = pilotIn w;
+  clock = clockIn w;
   records = recordsOf w s x;
 }
 
 -- the station with other records
 abbrev pub withRecords : Station → List Record → Station
 withRecords s rs = build (shared s) (record { state = s .state; records = rs })
+
+-- the station in another state, with the pilot state and the clock
+abbrev pub inState : State → Pilot → ℕ → Station → Station
+inState state pilot clock s = build (record { config = s .config; pilot = pilot; clock = clock }) (record { state = state; records = s .records })

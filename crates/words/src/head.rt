@@ -10,11 +10,10 @@ use rules::Configuration;
 use rules::Pilot;
 use rules::State;
 ghost use mathlib.Core.Path.{_≡_};
-ghost use Prim.Native.Nat.{_%_, _^_, _<_, _≤_};
-ghost use lib.ListN.{length, getD};
+ghost use Prim.Native.Nat.{_^_, _<_, _≤_};
+ghost use lib.ListN.{length};
 ghost use lib.Seq.{sets};
-ghost use Rattle.words.specs.Words.{headCount, configOf, editionIn, stateOf};
-ghost use Rattle.rules.specs.Numbers.{pilotOf};
+ghost use Rattle.words.specs.Words.{headCount, configOf, editionIn, stateOf, pilotIn, clockIn};
 ghost use Rattle.words.specs.Written.{stateTime, headOf};
 
 // The configuration.
@@ -56,7 +55,7 @@ pub(crate) fn state(words: &[u64]) -> State
 // The pilot state.
 pub(crate) fn pilot(words: &[u64]) -> Pilot
     requires { ⌜ headCount ≤ length (now words) ⌝ }
-    ensures { λ r. ⌜ r ≡ pilotOf (getD (now (words .entry)) 10 0) ⌝ }
+    ensures { λ r. ⌜ r ≡ pilotIn (now (words .entry)) ⌝ }
 {
     rules::pilot_of(words[10])
 }
@@ -64,7 +63,7 @@ pub(crate) fn pilot(words: &[u64]) -> Pilot
 // The clock.
 pub(crate) fn clock(words: &[u64]) -> u32
     requires { ⌜ headCount ≤ length (now words) ⌝ }
-    ensures { λ r. ⌜ r ≡ getD (now (words .entry)) 11 0 % 2 ^ 32 ⌝ }
+    ensures { λ r. ⌜ r ≡ clockIn (now (words .entry)) ⌝ }
 {
     ends::fields::low(words[11])
 }

@@ -13,18 +13,20 @@ use records::changes;
 use records::find::Found;
 use records::timers;
 use rules::Configuration;
+use rules::Pilot;
 use rules::RECORDS;
 use rules::Record;
 use rules::State;
 use rules::Station;
 ghost use mathlib.Core.Path.{_≡_};
-ghost use mathlib.Core.List.{List};
+ghost use mathlib.Core.List.{List, map};
 ghost use Prim.Native.Nat.{ℕ};
 ghost use lib.ListN.{getD, set};
 ghost use Rattle.rules.specs.Invariant.{GoodRecord, Invariant};
+ghost use Rattle.rules.specs.Records.{freed};
 ghost use Rattle.rules.specs.Rules.{freeRecord};
 ghost use Rattle.records.specs.Places.{ownFrom, placeOf};
-ghost use Rattle.words.specs.Words.{configOf, editionIn, stateOf, recordsOf, heldCount, stationOf, withRecords};
+ghost use Rattle.words.specs.Words.{configOf, editionIn, stateOf, pilotIn, clockIn, recordsOf, heldCount, stationOf, withRecords, inState};
 ghost use Rattle.words.specs.Written.{stateNumber};
 ghost use Rattle.words.specs.Wiped.{Wiped};
 
@@ -74,6 +76,20 @@ pub fn state_of(words: &StationWords) -> State
     ensures { λ r. ⌜ r ≡ stateOf (now (words .entry)) ⌝ }
 {
     head::state(words)
+}
+
+// The pilot state.
+pub fn pilot_of(words: &StationWords) -> Pilot
+    ensures { λ r. ⌜ r ≡ pilotIn (now (words .entry)) ⌝ }
+{
+    head::pilot(words)
+}
+
+// The clock.
+pub fn clock_of(words: &StationWords) -> u32
+    ensures { λ r. ⌜ r ≡ clockIn (now (words .entry)) ⌝ }
+{
+    head::clock(words)
 }
 
 // The place of the car's own record, or none: of other cars' records one word is read.
@@ -126,6 +142,20 @@ pub fn put_record(
     ensures { λ _. ⌜ stationOf (now (words .exit)) (now (sums .exit)) (now (spread .exit)) ≡ withRecords (stationOf (now (words .entry)) (now (sums .entry)) (now (spread .entry))) (set (recordsOf (now (words .entry)) (now (sums .entry)) (now (spread .entry))) i r) ⌝ }
 {
     one_record::store(words, sums, spread, i, r);
+}
+
+// Frees every record: of each one word is stored.
+pub fn free_all(words: &mut StationWords)
+    ensures { λ _. ⌜ ((sums spread : List ℕ) → stationOf (now (words .exit)) sums spread ≡ withRecords (stationOf (now (words .entry)) sums spread) (map freed (recordsOf (now (words .entry)) sums spread))) ⌝ }
+{
+    whole::free_all(words);
+}
+
+// Stores another state, pilot state and clock.
+pub fn put_state(words: &mut StationWords, state: State, pilot: Pilot, clock: u32)
+    ensures { λ _. ⌜ ((sums spread : List ℕ) → stationOf (now (words .exit)) sums spread ≡ inState state pilot clock (stationOf (now (words .entry)) sums spread)) ⌝ }
+{
+    whole::put_state(words, state, pilot, clock);
 }
 
 // The number of a state: 0 Unmatched, 1 Matching, 2 Joining, 3 Matched.

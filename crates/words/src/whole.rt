@@ -1,15 +1,22 @@
 // The whole station: out of its words, sums and spread, and into them.
+use crate::HEAD;
+use crate::WIDTH;
 use crate::copies;
 use crate::head;
 use crate::one_record;
+use rules::Pilot;
 use rules::RECORDS;
 use rules::RecordArray;
+use rules::State;
 use rules::Station;
 ghost use mathlib.Core.Path.{_≡_};
+ghost use mathlib.Core.List.{List, map};
+ghost use Prim.Native.Nat.{ℕ};
 ghost use lib.ListN.{length};
 ghost use Rattle.rules.specs.Invariant.{GoodRecord, Invariant};
+ghost use Rattle.rules.specs.Records.{freed};
 ghost use Rattle.ends.specs.Lists.{All};
-ghost use Rattle.words.specs.Words.{wordCount, sumCount, spreadCount, editionIn, recordsOf, stationOf, withRecords};
+ghost use Rattle.words.specs.Words.{wordCount, sumCount, spreadCount, editionIn, recordsOf, stationOf, withRecords, inState};
 ghost use Rattle.words.specs.Wiped.{Wiped};
 
 // All records.
@@ -70,6 +77,27 @@ pub(crate) fn pack(station: Station, words: &mut [u64], sums: &mut [u16], spread
     let records = station.records;
     head::put(words, config, state, pilot, station.clock);
     store_all(records, words, sums, spread);
+}
+
+// Frees every record: of each the first word is stored.
+pub(crate) fn free_all(words: &mut [u64])
+    requires { ⌜ length (now words) ≡ wordCount ⌝ }
+    ensures { λ _. ⌜ ((sums spread : List ℕ) → stationOf (now (words .exit)) sums spread ≡ withRecords (stationOf (now (words .entry)) sums spread) (map freed (recordsOf (now (words .entry)) sums spread))) ⌝ }
+{
+    let mut i: usize = 0;
+    while i < RECORDS {
+        words[HEAD + WIDTH * i] = 0;
+        i += 1;
+    }
+}
+
+// Stores another state, pilot state and clock.
+pub(crate) fn put_state(words: &mut [u64], state: State, pilot: Pilot, clock: u32)
+    requires { ⌜ length (now words) ≡ wordCount ⌝ }
+    ensures { λ _. ⌜ ((sums spread : List ℕ) → stationOf (now (words .exit)) sums spread ≡ inState state pilot clock (stationOf (now (words .entry)) sums spread)) ⌝ }
+{
+    let config = head::config(words);
+    head::put(words, config, state, pilot, clock);
 }
 
 // Wipes a station.
