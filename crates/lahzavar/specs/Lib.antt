@@ -2,4 +2,5 @@ pub mod Answers
 pub mod Lent
 pub mod Storing
 pub mod Frames
+pub mod Events
 pub mod Car

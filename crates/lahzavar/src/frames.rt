@@ -1,6 +1,7 @@
 // A frame, at one record in place.
 use crate::Answered;
 use crate::answers;
+use crate::matching;
 use crate::storing;
 use ends::Answer;
 use ends::Indication;
@@ -235,7 +236,7 @@ fn by_value(
     storing::settle(words, sums, spread, stepped)
 }
 
-// A frame was received: PARM.REQ and what concerns the car's own run touch one record; MATCH.REQ and both VALIDATE.REQ, which are rare, go through the whole station.
+// A frame was received: PARM.REQ and what concerns the car's own run touch one record, MATCH.REQ a word of each; both VALIDATE.REQ, which are rare, go through the whole station.
 pub(crate) fn receive(
     words: &mut StationWords,
     sums: &mut StationSums,
@@ -253,6 +254,9 @@ pub(crate) fn receive(
         Judged::Taken { car, request } => match request {
             Request::Parm(run) => parm_req(words, sums, spread, car, run, out),
             Request::Own(message) => at_own(words, sums, spread, car, message, octets, out),
+            Request::Match(run) => {
+                matching::match_req(words, sums, spread, car, run, octets, out)
+            }
             _ => by_value(words, sums, spread, octets, out),
         },
     }

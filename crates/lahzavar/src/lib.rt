@@ -1,7 +1,9 @@
 // A station for C and Rust to link: lent as words and sums, answered in plain numbers.
 mod answers;
 pub mod car_calls;
+mod events;
 mod frames;
+mod matching;
 mod storing;
 
 use messages::CarAddress;
@@ -131,9 +133,8 @@ pub extern "C" fn lahzavar_pilot(
     if 5 < pilot {
         return answers::no_pilot(words::config_of(words));
     }
-    let station = words::unpack(words, sums, spread);
-    let stepped = station::pilot(station, rules::pilot_of(answers::wide(pilot)), reading);
-    storing::settle(words, sums, spread, stepped)
+    let at = rules::pilot_of(answers::wide(pilot));
+    events::pilot(words, sums, spread, at, reading)
 }
 
 // Matching is terminated.
@@ -145,9 +146,7 @@ pub extern "C" fn lahzavar_terminate(
 ) -> Answered
     ensures { λ r. ⌜ Lent calls.terminate (now (words .entry)) (now (sums .entry)) (now (spread .entry)) [] [] (now (words .exit)) (now (sums .exit)) (now (spread .exit)) r ⌝ }
 {
-    let station = words::unpack(words, sums, spread);
-    let stepped = station::terminate(station);
-    storing::settle(words, sums, spread, stepped)
+    events::terminate(words)
 }
 
 // The link to the car that joins is up.
@@ -159,9 +158,7 @@ pub extern "C" fn lahzavar_link_up(
 ) -> Answered
     ensures { λ r. ⌜ Lent calls.linkUp (now (words .entry)) (now (sums .entry)) (now (spread .entry)) [] [] (now (words .exit)) (now (sums .exit)) (now (spread .exit)) r ⌝ }
 {
-    let station = words::unpack(words, sums, spread);
-    let stepped = station::link_up(station);
-    storing::settle(words, sums, spread, stepped)
+    events::link_up(words)
 }
 
 // Wipes a station, its key too: it answers 16 to everything.

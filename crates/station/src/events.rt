@@ -19,7 +19,7 @@ ghost use Rattle.rules.specs.Validation.{turn};
 ghost use Rattle.station.specs.Steps.{Gives, sharedAs};
 
 // Whether the pilot is at B, C or D.
-fn plugged(pilot: Pilot) -> bool
+pub fn plugged(pilot: Pilot) -> bool
     ensures { λ b. ⌜ b ≡ rule.plugged pilot ⌝ }
 {
     match pilot {
@@ -47,7 +47,7 @@ pub(crate) fn is_b(pilot: Pilot) -> bool
 }
 
 // What the end of a state indicates.
-fn lost(state: State) -> Indication
+pub fn lost(state: State) -> Indication
     ensures { λ x. ⌜ x ≡ rule.lost state ⌝ }
 {
     match state {

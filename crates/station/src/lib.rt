@@ -2,7 +2,7 @@
 mod all_records;
 mod answers;
 mod confirming;
-mod events;
+pub mod events;
 mod frames;
 mod freeing;
 mod reports;

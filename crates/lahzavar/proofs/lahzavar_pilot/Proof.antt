@@ -1,10 +1,10 @@
 -- `lahzavar::lahzavar_pilot` meets its contract, by the number.
-use Rattle.lahzavar.proofs.LentLaws.{lent, pilot-lent, no-pilot-lent}
+use Rattle.lahzavar.proofs.LentLaws.{pilot-lent, no-pilot-lent}
 use Rattle.rules.specs.declared.Configuration.{Configuration}
 use Rattle.rules.specs.Numbers.{pilotOf}
 use Rattle.words.specs.Words.{stationOf}
-use borrow.Author.Needs.{needs}
 use mathlib.Core.Path.{ap, _∙_}
+use borrow.Author.Needs.{needs}
 use Rattle.lahzavar.proofs.lahzavar_pilot.Statement.{statement}
 use Rattle.lahzavar.proofs.lahzavar_pilot.Tie as tie
 
@@ -18,9 +18,6 @@ returns : tie.Need-returns
 unfolding stationOf
 returns c = no-pilot-lent _ _ _ _ _ _ _ (ap (λ (o : Configuration). o .good) (c .before .config-of .ensures)) (c .before .before .before .if1 .taken) (c .no-pilot .ensures)
 
-unpack-requires : tie.Need-unpack-requires
-unpack-requires c κs = search needs
-
 wide-requires : tie.Need-wide-requires
 wide-requires c κs = search needs
 
@@ -28,13 +25,10 @@ pilot-of-requires : tie.Need-pilot-of-requires
 pilot-of-requires c κs = search needs
 
 pilot-requires : tie.Need-pilot-requires
-pilot-requires c κs = c .before .before .unpack .ensures .1
-
-settle-requires : tie.Need-settle-requires
-settle-requires c κs = c .before .before .before .pilot .ensures .kept
+pilot-requires c κs = search needs
 
 returns-2 : tie.Need-returns-2
-returns-2 c = pilot-lent _ _ _ _ _ _ _ _ _ _ (c .before .before .before .before .before .pilot-of .ensures ∙ ap pilotOf (c .before .before .before .before .before .before .wide .ensures)) (c .before .before .before .before .before .before .before .before .before .before .before .if1 .left) (lent _ _ _ _ _ _ _ _ _ _ _ _ (c .before .before .before .before .before .before .before .unpack .ensures .0) (c .before .before .before .before .pilot .ensures) (c .settle .ensures))
+returns-2 c = pilot-lent _ _ _ _ _ _ _ _ _ _ (c .before .before .before .before .pilot-of .ensures ∙ ap pilotOf (c .before .before .before .before .before .wide .ensures)) (c .before .before .before .before .before .before .if1 .left) (c .pilot .ensures)
 
 pub lahzavar-pilot-spec : {M : Type 1} → statement M
 lahzavar-pilot-spec =
@@ -43,9 +37,7 @@ lahzavar-pilot-spec =
     config-of-requires
     no-pilot-requires
     returns
-    unpack-requires
     wide-requires
     pilot-of-requires
     pilot-requires
-    settle-requires
     returns-2)

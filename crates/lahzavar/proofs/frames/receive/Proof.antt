@@ -43,6 +43,16 @@ at-own-requires c κs =
     let q = t .1 ∙ ap (λ (q : Request). Taken (t .0 .0) q) (c .before .before .before .before .before .request2 .given .1) in
     (frame-ready (a .words .now) (a .sums .now) (a .spread .now) (a .octets .now) (a .out .now) _ _ (c .before .before .before .before .before .before .before .before .before .before .judge .result) (c .before .before .before .before .before .before .before .before .before .before .before .before .before .config-of .ensures) (c .before .before .before .before .before .before .before .before .before .before .before .state-of .ensures) (c .before .before .before .before .before .before .before .before .before .before .judge .ensures) _ _ (t .1), frame-octets (a .words .now) (a .sums .now) (a .spread .now) (a .octets .now) (a .out .now) _ _ (c .before .before .before .before .before .before .before .before .before .before .judge .result) (c .before .before .before .before .before .before .before .before .before .before .before .before .before .config-of .ensures) (c .before .before .before .before .before .before .before .before .before .before .before .state-of .ensures) (c .before .before .before .before .before .before .before .before .before .before .judge .ensures) _ _ q (λ i. c .before .before .before .before .before .before .before .before .before .before .before .before .before .before .before .before .shared-slice-known .given i .fits))
 
+enum-known-request-3 : tie.Need-enum-known-request-3
+enum-known-request-3 c = search needs
+
+match-req-requires : tie.Need-match-req-requires
+match-req-requires c κs =
+    let a = c .before .before .before .before .before .before .before .before .before .before .before .before .before .before .before .before .before .args in
+    let t = c .before .before .before .before .before .before .before .before .judged2 .given in
+    let q = t .1 ∙ ap (λ (q : Request). Taken (t .0 .0) q) (c .before .before .before .before .before .request3 .given .1) in
+    (frame-ready (a .words .now) (a .sums .now) (a .spread .now) (a .octets .now) (a .out .now) _ _ (c .before .before .before .before .before .before .before .before .before .before .judge .result) (c .before .before .before .before .before .before .before .before .before .before .before .before .before .config-of .ensures) (c .before .before .before .before .before .before .before .before .before .before .before .state-of .ensures) (c .before .before .before .before .before .before .before .before .before .before .judge .ensures) _ _ (t .1), frame-octets (a .words .now) (a .sums .now) (a .spread .now) (a .octets .now) (a .out .now) _ _ (c .before .before .before .before .before .before .before .before .before .before .judge .result) (c .before .before .before .before .before .before .before .before .before .before .before .before .before .config-of .ensures) (c .before .before .before .before .before .before .before .before .before .before .before .state-of .ensures) (c .before .before .before .before .before .before .before .before .before .before .judge .ensures) _ _ q (λ i. c .before .before .before .before .before .before .before .before .before .before .before .before .before .before .before .before .shared-slice-known .given i .fits))
+
 by-value-requires : tie.Need-by-value-requires
 by-value-requires c κs = search needs
 
@@ -74,7 +84,16 @@ same-length-3 : tie.Need-same-length-3
 same-length-3 c = search needs
 
 returns-4 : tie.Need-returns-4
-returns-4 c = search needs
+returns-4 c =
+    let a = c .before .before .before .before .before .before .before .before .before .before .before .before .before .before .before .before .before .before .before .before .args in
+    let t = c .before .before .before .before .before .before .before .before .before .before .before .judged2 .given in
+    frame-lent (a .words .now) (a .sums .now) (a .spread .now) (a .octets .now) (a .out .now) _ _ (c .before .before .before .before .before .before .before .before .before .before .before .before .before .judge .result) (c .before .before .before .before .before .before .before .before .before .before .before .before .before .before .before .before .config-of .ensures) (c .before .before .before .before .before .before .before .before .before .before .before .before .before .before .state-of .ensures) (c .before .before .before .before .before .before .before .before .before .before .before .before .before .judge .ensures) _ _ _ _ _ (c .before .before .match-req .result) (t .1 ∙ ap (λ (q : Request). Taken (t .0 .0) q) (c .before .before .before .before .before .before .before .before .request3 .given .1)) (c .before .before .match-req .ensures)
+
+same-length-4 : tie.Need-same-length-4
+same-length-4 c = search needs
+
+returns-5 : tie.Need-returns-5
+returns-5 c = search needs
 
 pub receive-spec : {M : Type 1} → statement M
 receive-spec =
@@ -90,6 +109,8 @@ receive-spec =
     parm-req-requires
     enum-known-request-2
     at-own-requires
+    enum-known-request-3
+    match-req-requires
     by-value-requires
     returns
     same-length
@@ -97,4 +118,6 @@ receive-spec =
     same-length-2
     returns-3
     same-length-3
-    returns-4)
+    returns-4
+    same-length-4
+    returns-5)

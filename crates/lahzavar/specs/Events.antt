@@ -1,0 +1,21 @@
+-- What the parts of pilot, terminate and link up on a lent station give.
+use Prim.Native.Nat.{ℕ}
+use mathlib.Core.List.{List, [], map}
+use Rattle.messages.specs.Reading.{yes}
+use Rattle.ends.specs.declared.Indication.{Indication}
+use Rattle.rules.specs.declared.Pilot.{Pilot}
+use Rattle.rules.specs.declared.State.{State}
+use Rattle.rules.specs.Calls.{Call}
+use Rattle.rules.specs.Records.{freed}
+use Rattle.station.specs.Steps.{anew}
+use Rattle.words.specs.Words.{stationOf}
+use Rattle.lahzavar.specs.declared.Answered.{Answered}
+use Rattle.lahzavar.specs.Lent.{Leaves, Lent}
+
+-- the promise of a call x that sends nothing and leaves sums and spread as they are
+abbrev pub InWords : Call → (w v : List ℕ) → Answered → Type 0
+InWords x w v r = (s z : List ℕ) → Lent x w s z [] [] v s z r
+
+-- words from w to v and the answer r, where every record is freed, the state, the pilot state and the clock are these, and this is indicated
+abbrev pub Frees : State → Pilot → ℕ → Indication → (w v : List ℕ) → Answered → Type 0
+Frees st p t x w v r = (s z : List ℕ) → Leaves (anew (stationOf w s z) p t st (map freed (stationOf w s z .records))) (yes (record { frames = []; indication = x })) w s z [] [] v s z r

@@ -1,0 +1,111 @@
+// MATCH.REQ, in place: of each record one word is stored.
+use crate::Answered;
+use crate::answers;
+use ends::Indication;
+use ends::JOINING_TIME;
+use messages::CarAddress;
+use messages::Ids;
+use messages::Refusal;
+use messages::RunId;
+use receiving::reply;
+use records::find::Found;
+use records::requests;
+use records::requests::Verdict;
+use rules::Configuration;
+use rules::State;
+use words::StationSpread;
+use words::StationSums;
+use words::StationWords;
+ghost use mathlib.Core.Path.{_≡_};
+ghost use mathlib.Core.List.{[], _∷_};
+ghost use lib.ListN.{length};
+ghost use Rattle.messages.specs.Reading.{besideOf, readRules};
+ghost use Rattle.rules.specs.FromOctets.{IsId, OctetRequest};
+ghost use Rattle.rules.specs.Received.{matchReq};
+ghost use Rattle.rules.specs.Replies.{matchCnf, messageTo, framesTo};
+ghost use Rattle.ends.specs.Sending.{Writable};
+ghost use Rattle.station.specs.Frames.{Ready, joinRule};
+ghost use Rattle.words.specs.Words.{configOf, editionIn, stationOf};
+ghost use Rattle.lahzavar.specs.Frames.{Comes, Takes, Replies};
+
+// MATCH.CNF of a run, with the identifiers of its request.
+fn confirm(config: Configuration, car: CarAddress, run: RunId, ids: Ids, out: &mut [u8]) -> Answered
+    requires { ⌜ Writable (messageTo config car (matchCnf run (ids .first) (ids .second))) (length (now out)) ⌝ }
+    ensures { λ r. ⌜ Replies (framesTo config car (matchCnf run (ids .first) (ids .second) ∷ [])) (now (out .entry)) (now (out .exit)) r ⌝ }
+{
+    let edition = config.edition;
+    let message = reply::match_cnf(config, car, run);
+    let groups = messages::no_groups();
+    let answer = ends::send(edition, message, groups, ids, Indication::Nothing, out);
+    answers::answered(answer)
+}
+
+// MATCH.REQ in Matching: 11, 12, or the car joins and every record is freed.
+fn join(
+    words: &mut StationWords,
+    sums: &mut StationSums,
+    spread: &mut StationSpread,
+    car: CarAddress,
+    run: RunId,
+    ids: Ids,
+    out: &mut [u8],
+) -> Answered
+    requires { ⌜ Ready (stationOf (now words) (now sums) (now spread)) car (now out) × (IsId (editionIn (now words)) (ids .first) × IsId (editionIn (now words)) (ids .second)) ⌝ }
+    ensures { λ r. ⌜ Comes (joinRule (stationOf (now (words .entry)) (now (sums .entry)) (now (spread .entry))) car run (ids .first) (ids .second)) (now (words .entry)) (now (sums .entry)) (now (spread .entry)) (now (out .entry)) (now (out .exit)) (now (words .exit)) (now (sums .exit)) (now (spread .exit)) r ⌝ }
+{
+    let found = words::own_place(words, car);
+    let Found::Own(i) = found else {
+        return answers::refused(Refusal::NoRecord);
+    };
+    let r = words::record_at(words, sums, spread, i);
+    let verdict = requests::match_req(r, run);
+    match verdict {
+        Verdict::Refused(refusal) => answers::refused(refusal),
+        Verdict::Accepted => {
+            let config = words::config_of(words);
+            let pilot = words::pilot_of(words);
+            let clock = words::clock_of(words);
+            let joining = State::Joining {
+                left: JOINING_TIME,
+                car: car,
+                run: run,
+            };
+            words::free_all(words);
+            words::put_state(words, joining, pilot, clock);
+            confirm(config, car, run, ids, out)
+        }
+    }
+}
+
+// MATCH.REQ: in Matching the car joins; in Joining its own is confirmed again, another car's is 11; else 8.
+pub(crate) fn match_req(
+    words: &mut StationWords,
+    sums: &mut StationSums,
+    spread: &mut StationSpread,
+    car: CarAddress,
+    run: RunId,
+    octets: &[u8],
+    out: &mut [u8],
+) -> Answered
+    requires { ⌜ Ready (stationOf (now words) (now sums) (now spread)) car (now out) × OctetRequest (editionIn (now words)) (matchReq run (besideOf (readRules (editionIn (now words)) (now octets)) .first) (besideOf (readRules (editionIn (now words)) (now octets)) .second)) ⌝ }
+    ensures { λ r. ⌜ Takes car (matchReq run (besideOf (readRules (editionIn (now (words .entry))) (now (octets .entry))) .first) (besideOf (readRules (editionIn (now (words .entry))) (now (octets .entry))) .second)) (now (words .entry)) (now (sums .entry)) (now (spread .entry)) (now (out .entry)) (now (out .exit)) (now (words .exit)) (now (sums .exit)) (now (spread .exit)) r ⌝ }
+{
+    let edition = words::edition_of(words);
+    let ids = messages::identifiers(edition, octets);
+    let state = words::state_of(words);
+    match state {
+        State::Matching(_) => join(words, sums, spread, car, run, ids, out),
+        State::Joining {
+            left: _,
+            car: owner,
+            run: own,
+        } => {
+            if (car.0 == owner.0) & (run.0 == own.0) {
+                confirm(words::config_of(words), car, run, ids, out)
+            } else {
+                answers::refused(Refusal::NoRecord)
+            }
+        }
+        _ => answers::refused(Refusal::WrongState),
+    }
+}
