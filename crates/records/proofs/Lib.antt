@@ -4,6 +4,7 @@ pub mod FillLaws
 pub mod ProfileLaws
 pub mod RequestLaws
 pub mod PlaceLaws
+pub mod SeekLaws
 pub mod MeanLaws
 pub mod TimerLaws
 pub mod ValidationLaws

@@ -21,7 +21,7 @@ use Rattle.rules.specs.Constants.{mostToggles, successResult, failureResult}
 use Rattle.rules.specs.Records.{isHeld, inPhase}
 use Rattle.rules.specs.Replies.{Reply, parmCnf, matchCnf, report, confirmation, reportOf, isConfirmation}
 use Rattle.rules.specs.Ticks.{Ticked, stillHeld, runsOut, reports, windowEnds, repliesOf}
-use Rattle.rules.specs.Validation.{validates, isValidating, fromB, fromC, fromD, turn, oneMore, toggledPhase, toggledRecord}
+use Rattle.rules.specs.Validation.{validates, fromB, fromC, fromD, turn, oneMore, toggledPhase, toggledRecord}
 use Rattle.rules.proofs.Phase as phase
 use Rattle.rules.proofs.Pilot as pilot
 use Rattle.records.specs.Timers.{tickReplies, timeOf, firedOf}

@@ -20,7 +20,7 @@ ghost use mathlib.Core.Path.{_≡_};
 ghost use mathlib.Core.List.{[], _∷_};
 ghost use Rattle.messages.specs.Reading.{check};
 ghost use Rattle.rules.specs.Records.{fitsGroups};
-ghost use Rattle.rules.specs.Frames.{keeps, startRule, soundRule, profileRule, rspRule, firstRule, secondRule, mayMatch, matchRule, atRun};
+ghost use Rattle.rules.specs.Frames.{keeps, startRule, soundRule, profileRule, rspRule, secondRule, mayMatch, matchRule, atRun};
 ghost use Rattle.rules.specs.Invariant.{GoodRecord};
 ghost use Rattle.records.specs.Requests.{Keeps, Validates, runRule, verdictOf};
 

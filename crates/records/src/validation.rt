@@ -1,21 +1,22 @@
-// Validation of one record: whether it is ready or counting, its toggles, and what a tick confirms.
+// Validation of one record: whether it is ready or counting, what a first VALIDATE.REQ is answered, its toggles, and what a tick confirms.
 use crate::changes;
 use rules::FAILURE_RESULT;
 use rules::MOST_TOGGLES;
+use rules::NOT_REQUIRED_RESULT;
 use rules::Phase;
 use rules::Pilot;
+use rules::READY_RESULT;
 use rules::Record;
 use rules::SUCCESS_RESULT;
 use rules::Turn;
 ghost use mathlib.Core.Path.{_≡_};
-ghost use mathlib.Core.List.{[], _∷_};
 ghost use Rattle.ends.specs.Lists.{only};
 ghost use Rattle.rules.specs.Replies.{isConfirmation};
 ghost use Rattle.rules.specs.Ticks.{windowEnds, repliesOf};
 ghost use Rattle.rules.specs.Validation as rule;
 ghost use Rattle.rules.specs.Validation.{isValidating, toggledRecord, toggledPhase, oneMore, counts};
 ghost use Rattle.records.specs.Timers.{tickReplies};
-ghost use Rattle.records.specs.Validation.{confirmationOf};
+ghost use Rattle.records.specs.Validation.{resultBy, confirmationOf};
 
 // What a tick confirms to a record's car: nothing, or the toggles and the result.
 pub enum Confirmation {
@@ -24,7 +25,7 @@ pub enum Confirmation {
 }
 
 // Whether a phase is ready or counting.
-fn validates(phase: Phase) -> bool
+pub fn validates(phase: Phase) -> bool
     ensures { λ b. ⌜ b ≡ rule.validates phase ⌝ }
 {
     match phase {
@@ -44,6 +45,16 @@ pub fn is_validating(r: Record) -> bool
 {
     let phase = r.phase;
     r.held & validates(phase)
+}
+
+// What a first VALIDATE.REQ is answered, by whether validation is not required, and whether any record is ready or counting.
+pub fn first_result(exempt: bool, any: bool) -> u8
+    ensures { λ x. ⌜ x ≡ resultBy exempt any ⌝ }
+{
+    if exempt {
+        return NOT_REQUIRED_RESULT;
+    }
+    if any { FAILURE_RESULT } else { READY_RESULT }
 }
 
 // A pilot change from B.

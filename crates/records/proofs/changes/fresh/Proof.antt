@@ -1,7 +1,5 @@
 -- `records::changes::fresh` meets its contract: the definition, with the sums that `no_sums` gives.
-use Rattle.rules.specs.Constants.{askedTime}
 use Rattle.rules.specs.Records.{fresh}
-use Rattle.rules.specs.declared.Phase.the-variants.{Asked}
 use borrow.Author.Needs.{needs}
 use Rattle.records.proofs.changes.fresh.Statement.{statement}
 use Rattle.records.proofs.changes.fresh.Tie as tie

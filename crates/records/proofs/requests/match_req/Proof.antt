@@ -1,6 +1,6 @@
 -- The run first, then the phase.
-use mathlib.Core.Path.{sym, ap, _∙_}
-use mathlib.Core.Bool.{Bool, true, false}
+use mathlib.Core.Path.{sym, _∙_}
+use mathlib.Core.Bool.{true, false}
 use Rattle.records.proofs.RequestLaws.{match-phase, match-other}
 use borrow.Author.Needs.{needs}
 use Rattle.records.proofs.requests.match_req.Statement.{statement}

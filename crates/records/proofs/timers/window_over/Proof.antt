@@ -1,8 +1,5 @@
 -- By the pilot.
-use mathlib.Core.Path.{sym, ap, _∙_}
-use mathlib.Core.Bool.{Bool}
-use Rattle.rules.specs.Ticks.{windowEnds, recordOf, repliesOf}
-use Rattle.records.specs.Timers.{afterHeld}
+use mathlib.Core.Path.{_∙_}
 use Rattle.records.proofs.TimerLaws.{window-success, window-failure}
 use borrow.Author.Needs.{needs}
 use Rattle.records.proofs.timers.window_over.Statement.{statement}
