@@ -10,7 +10,7 @@ use Rattle.messages.specs.declared.Edition.{Edition}
 use Rattle.messages.specs.Answers.{numberOf, messageOf}
 use Rattle.messages.specs.Claims.{NumbersDiffer, AnswersDiffer, WrittenDiffer}
 use Rattle.messages.specs.declared.Refusal.{Refusal}
-use Rattle.messages.specs.declared.Refusal.the-variants.{TooShort, BadHead, UnknownType, TooLong, BadAddress, BadOctet, NotForUs, WrongState, AdmissionClosed, RecordsFull, NoRecord, WrongPhase, BadSoundCount, TickGap, OutputTooShort, BadConfiguration, OnlyForCars, ReportsFull, OnlyForStations, NoSounds, EmptyRun, OtherTry, OtherGroupCount}
+use Rattle.messages.specs.declared.Refusal.the-variants.{TooShort, BadHead, UnknownType, TooLong, BadAddress, BadOctet, NotForUs, WrongState, AdmissionClosed, RecordsFull, NoRecord, WrongPhase, BadSoundCount, TickGap, OutputTooShort, BadConfiguration, OnlyForCars, ReportsFull, OnlyForStations, NoSounds, EmptyRun, OtherTry, OtherGroupCount, OtherCarrierCount}
 use Rattle.messages.specs.declared.Message.{Message}
 use Rattle.messages.specs.declared.Message.the-variants.{SlacParmReq, SlacParmCnf, StartAttenCharInd, AttenCharInd, AttenCharRsp, MnbcSoundInd, ValidateReq, ValidateCnf, SlacMatchReq, SlacMatchCnf, AttenProfileInd}
 use Rattle.messages.specs.declared.ReadAnswer.the-variants as readAnswer
@@ -22,7 +22,7 @@ refusals : List Refusal
 refusals =
     TooShort ∷ BadHead ∷ UnknownType ∷ TooLong ∷ BadAddress ∷ BadOctet ∷ NotForUs ∷ WrongState ∷ AdmissionClosed ∷ RecordsFull ∷ NoRecord ∷ WrongPhase
     ∷ BadSoundCount ∷ TickGap ∷ OutputTooShort ∷ BadConfiguration ∷ OnlyForCars ∷ ReportsFull ∷ OnlyForStations
-    ∷ NoSounds ∷ EmptyRun ∷ OtherTry ∷ OtherGroupCount ∷ []
+    ∷ NoSounds ∷ EmptyRun ∷ OtherTry ∷ OtherGroupCount ∷ OtherCarrierCount ∷ []
 
 -- the refusal that has a number
 refusalOf : ℕ → Refusal
@@ -53,6 +53,7 @@ refusal-back NoSounds = refl
 refusal-back EmptyRun = refl
 refusal-back OtherTry = refl
 refusal-back OtherGroupCount = refl
+refusal-back OtherCarrierCount = refl
 
 pub numbers-differ : NumbersDiffer
 numbers-differ x y e = sym (refusal-back x) ∙ ap refusalOf e ∙ refusal-back y

@@ -46,7 +46,7 @@ module _ (e : Edition) (s : List ℕ) where
   pub told-count : (i j : Kind) (g : ℕ) → i ≡ j → isCounted e (countAt (kindOf i)) g ≡ true → Bare (countAt (kindOf j)) g
   told-count i j g q h = bare e (countAt (kindOf j)) g (subst (λ (k : Kind). isCounted e (countAt (kindOf k)) g ≡ true) q h)
 
-  -- a frame of kind i has room for the payload of its kind, and at most 58 group values
+  -- a frame of kind i has room for the payload of its kind, and at most groupCount group values
   pub payload-room : (i j : Kind) (g : ℕ) → i ≡ j → filledSize (kindOf i) g ≤ length s → filledSize (kindOf j) g ≤ length s
   payload-room i j g q h = rw q at h
 

@@ -7,7 +7,7 @@ use native.Mathlib.Omega.{arith}
 use native.Mathlib.Nat.{one-le-pow}
 use borrow.Author.Tests.{eq-eqb, eqb-true, ltb-true, lt-ltb}
 use lib.Dec.{eqb, ltb}
-use lib.ListN.{length, take, drop, replicate, length-append, length-replicate}
+use lib.ListN.{length, take, replicate, length-append, length-replicate}
 use lib.Seq.{take-at, length-take-le}
 use Rattle.octets.specs.Octets.{value, bytes, lowValue, lowBytes, part, Octets}
 use Rattle.messages.specs.Layout.{Field, is, number, such, low, free, octets, reserved, Values, width, size, zeros, holds, read, encode, zeroedField, zeroed, fits}

@@ -4,6 +4,7 @@ use mathlib.Core.Path.{_≡_, refl, sym, ap, ap₂, _∙_}
 use mathlib.Core.Bool.{Bool, true, false, _&&_, and-true, and-assoc}
 use mathlib.Core.List.{List, [], _∷_}
 use mathlib.Core.Option.{Option, none, some}
+use native.Mathlib.Omega.{arith}
 use borrow.Author.Tests.{eqb-true, lt-ltb, le-leb, lt-leb}
 use lib.Dec.{eqb, leb, ltb}
 use lib.ListN.{length}
@@ -11,7 +12,7 @@ use Rattle.octets.specs.Octets.{value, lowValue, Octets}
 use Rattle.messages.specs.Layout.{Field, is, number, such, low, free, octets, reserved, Values, size, zeros, holds, read}
 use Rattle.messages.specs.Table as table
 use Rattle.messages.specs.Table.{Kind, slacParmReq, slacParmCnf, startAttenCharInd, attenCharInd, attenCharRsp, mnbcSoundInd, validateReq, validateCnf, slacMatchReq, slacMatchCnf, attenProfileInd, countAt, head, broadcast, isUnicast, payload, isCounted, addressed}
-use Rattle.messages.specs.Reading.{no, yes, check, Beside, ofType, kinds, typed, kindRules, payloadRules, besideIn}
+use Rattle.messages.specs.Reading.{Checked, no, yes, check, Beside, Form, ofType, kinds, typed, typeIn, headed, typeRules, kindRules, payloadRules, besideIn}
 use Rattle.messages.specs.Answers.{messageOf, answerOf}
 use Rattle.messages.specs.Private.{Reads}
 use Rattle.messages.specs.declared.Edition.{Edition}
@@ -101,22 +102,55 @@ module _ (e : Edition) (k : Kind) (g d f : ℕ) (p : List ℕ) (r : ReadAnswer) 
   pub decided : Bare (countAt k) g → Decided (addressed e k g d f values) (joined true 0 (payload e k g d f) p) → Reads e r (payloadRules e k g d f p)
   decided n h = rw (joined-holds (payload e k g d f) true 0 p) at (by-tests (addressed e k g d f values) (joined true 0 (payload e k g d f) p) n h (λ q. q))
 
--- the kind of a frame whose octets are octets, as the code finds it
-module _ (e : Edition) (s : List ℕ) where
+-- the type of a frame whose octets are octets, as the code finds it
+module _ (s : List ℕ) where
   abbrev fixed : Bool
   fixed = eqb (value s 12 3) 0x88E101 && eqb (value s 17 2) 0
 
   head-holds : Octets s → holds 0 head s ≡ fixed
   head-holds o = simp (lt-ltb (lowValue s 15 2) (2 ^ 16) (low-lt s 15 2 o), and-true)
 
-  pub kind-short : length s < size head → no 1 ≡ kindRules e s
-  unfolding kindRules
-  kind-short h = sym (fail (leb (size head) (length s)) 1 _ (lt-leb (size head) (length s) h))
+  pub type-short : length s < size head → no 1 ≡ typeRules s
+  unfolding typeRules
+  type-short h = sym (fail (leb (size head) (length s)) 1 _ (lt-leb (size head) (length s) h))
 
-  pub kind-bad : Octets s → size head ≤ length s → fixed ≡ false → no 2 ≡ kindRules e s
-  unfolding kindRules
-  kind-bad o h q = sym (pass (leb (size head) (length s)) 1 _ (le-leb (size head) (length s) h) ∙ fail (holds 0 head s) 2 _ (head-holds o ∙ q))
+  pub type-bad : Octets s → size head ≤ length s → fixed ≡ false → no 2 ≡ typeRules s
+  unfolding typeRules
+  type-bad o h q = sym (pass (leb (size head) (length s)) 1 _ (le-leb (size head) (length s) h) ∙ fail (holds 0 head s) 2 _ (head-holds o ∙ q))
 
-  pub kind-typed : Octets s → size head ≤ length s → fixed ≡ true → typed e (ofType (lowValue s 15 2) kinds) s ≡ kindRules e s
+  pub type-found : Octets s → size head ≤ length s → fixed ≡ true → yes (lowValue s 15 2) ≡ typeRules s
+  unfolding typeRules
+  type-found o h q = sym (pass (leb (size head) (length s)) 1 _ (le-leb (size head) (length s) h) ∙ pass (holds 0 head s) 2 _ (head-holds o ∙ q))
+
+-- what follows the head: f of the type that it names, or the head's refusal
+module _ {A : Type 0} (f : ℕ → Checked A) where
+  by-type : (a b : Bool) (v t : ℕ) → yes t ≡ check a 1 (check b 2 (yes v)) → f t ≡ check a 1 (check b 2 (f v))
+  by-type true true v t q = ap f (cc)
+  by-type true false v t q = absurd (let z : _≡_ {A = ℕ} 0 1 = cc in omega arith)
+  by-type false b v t q = absurd (let z : _≡_ {A = ℕ} 0 1 = cc in omega arith)
+
+  by-refusal : (a b : Bool) (v n : ℕ) → no n ≡ check a 1 (check b 2 (yes v)) → no n ≡ check a 1 (check b 2 (f v))
+  by-refusal true true v n q = absurd (let z : _≡_ {A = ℕ} 0 1 = cc in omega arith)
+  by-refusal true false v n q = ap no (cc)
+  by-refusal false b v n q = ap no (cc)
+
+  pub after-type : (s : List ℕ) (t : ℕ) → yes t ≡ typeRules s → f t ≡ headed s (f (typeIn s))
+  unfolding typeRules
+  after-type s t q = by-type (leb (size head) (length s)) (holds 0 head s) (typeIn s) t q
+
+  pub after-refusal : (s : List ℕ) (n : ℕ) → no n ≡ typeRules s → no n ≡ headed s (f (typeIn s))
+  unfolding typeRules
+  after-refusal s n q = by-refusal (leb (size head) (length s)) (holds 0 head s) (typeIn s) n q
+
+-- a frame's form, by the type that its head names
+module _ (e : Edition) (s : List ℕ) where
+  abbrev form : ℕ → Checked Form
+  form t = typed e (ofType t kinds) s
+
+  pub kind-typed : (t : ℕ) → yes t ≡ typeRules s → typed e (ofType t kinds) s ≡ kindRules e s
   unfolding kindRules
-  kind-typed o h q = sym (pass (leb (size head) (length s)) 1 _ (le-leb (size head) (length s) h) ∙ pass (holds 0 head s) 2 _ (head-holds o ∙ q))
+  kind-typed t q = after-type form s t q
+
+  pub kind-refused : (n : ℕ) → no n ≡ typeRules s → no n ≡ kindRules e s
+  unfolding kindRules
+  kind-refused n q = after-refusal form s n q

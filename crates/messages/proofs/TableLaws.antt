@@ -10,7 +10,7 @@ use lib.Dec.{eqb, leb, ltb}
 use lib.ListN.{length, drop}
 use Rattle.octets.specs.Octets.{value}
 use Rattle.messages.specs.Layout.{Values, size, zeros, holds}
-use Rattle.messages.specs.Table.{Kind, slacParmReq, slacParmCnf, startAttenCharInd, attenCharInd, attenCharRsp, mnbcSoundInd, validateReq, validateCnf, slacMatchReq, slacMatchCnf, attenProfileInd, groupCount, idOctets, anyId, isCount, typeOf, countAt, payloadSize, head, writtenSize, broadcast, isUnicast, isReceiver, payload, isCounted, addressed}
+use Rattle.messages.specs.Table.{Kind, slacParmReq, slacParmCnf, startAttenCharInd, attenCharInd, attenCharRsp, mnbcSoundInd, validateReq, validateCnf, slacMatchReq, slacMatchCnf, attenProfileInd, groupCount, idOctets, anyId, isCount, typeOf, countAt, payloadSize, head, broadcast, isUnicast, isReceiver, payload, isCounted, addressed}
 use Rattle.messages.specs.Reading.{no, yes, ofType, kinds, sized, typed, countRules}
 use Rattle.messages.specs.declared.Edition.{Edition}
 use Rattle.messages.specs.declared.Edition.the-variants.{Iso, Sae}
@@ -45,10 +45,6 @@ payload-short validateCnf g h = omega arith
 payload-short slacMatchReq g h = omega arith
 payload-short slacMatchCnf g h = omega arith
 payload-short attenProfileInd g h = omega arith
-
--- a report of g groups is 71 + g octets long
-pub report-size : (g : ℕ) → writtenSize attenCharInd g ≡ 71 + g
-report-size g = omega arith
 
 -- a row is found by its type, which fits two octets
 pub type-found : (k : Kind) → (ofType (typeOf k) kinds ≡ some k) × (typeOf k < 2 ^ 16)

@@ -406,6 +406,6 @@ written m full l w h =
       sets-splice (frame m) l 0 (omega (arith, n)) ∙ ap (λ (x : Checked (List ℕ)). splice 0 (octetsOf x) l) w,
     )
 
--- a message whose values fit has at most 58 group values
+-- a message whose values fit has at most groupCount group values
 pub limited-most : (m : table.Message) → isLimited m ≡ true → m .count ≤ groupCount
 limited-most m h = count-le (m .edition) (countAt (m .kind)) (m .count) (and-left (isCounted (m .edition) (countAt (m .kind)) (m .count)) _ h)

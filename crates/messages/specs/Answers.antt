@@ -7,11 +7,13 @@ use Rattle.messages.specs.Reading.{Checked, no, yes, Beside}
 use Rattle.messages.specs.declared.Edition.{Edition}
 use Rattle.messages.specs.declared.Ids.{Ids}
 use Rattle.messages.specs.declared.Refusal.{Refusal}
-use Rattle.messages.specs.declared.Refusal.the-variants.{TooShort, BadHead, UnknownType, TooLong, BadAddress, BadOctet, NotForUs, WrongState, AdmissionClosed, RecordsFull, NoRecord, WrongPhase, BadSoundCount, TickGap, OutputTooShort, BadConfiguration, OnlyForCars, ReportsFull, OnlyForStations, NoSounds, EmptyRun, OtherTry, OtherGroupCount}
+use Rattle.messages.specs.declared.Refusal.the-variants.{TooShort, BadHead, UnknownType, TooLong, BadAddress, BadOctet, NotForUs, WrongState, AdmissionClosed, RecordsFull, NoRecord, WrongPhase, BadSoundCount, TickGap, OutputTooShort, BadConfiguration, OnlyForCars, ReportsFull, OnlyForStations, NoSounds, EmptyRun, OtherTry, OtherGroupCount, OtherCarrierCount}
 use Rattle.messages.specs.declared.Message.{Message}
 use Rattle.messages.specs.declared.Message.the-variants.{SlacParmReq, SlacParmCnf, StartAttenCharInd, AttenCharInd, AttenCharRsp, MnbcSoundInd, ValidateReq, ValidateCnf, SlacMatchReq, SlacMatchCnf, AttenProfileInd}
 use Rattle.messages.specs.declared.ReadAnswer.{ReadAnswer}
 use Rattle.messages.specs.declared.ReadAnswer.the-variants as readAnswer
+use Rattle.messages.specs.declared.heads.TypeAnswer.{TypeAnswer}
+use Rattle.messages.specs.declared.heads.TypeAnswer.the-variants as typeAnswer
 use Rattle.messages.specs.declared.Written.{Written}
 use Rattle.messages.specs.declared.Written.the-variants as written
 
@@ -40,6 +42,7 @@ numberOf NoSounds = 20
 numberOf EmptyRun = 21
 numberOf OtherTry = 22
 numberOf OtherGroupCount = 23
+numberOf OtherCarrierCount = 24
 
 -- the message that a value of the code means in an edition, with what stands beside its numbers
 abbrev pub messageOf : Edition → Message → Beside → table.Message
@@ -58,6 +61,11 @@ messageOf e (AttenProfileInd modem station car count) b = record { edition = e; 
 -- what stands beside a value of the code
 abbrev pub besides : List ℕ → Ids → Beside
 besides groups ids = record { groups = groups; first = ids .first; second = ids .second }
+
+-- what the head names
+abbrev pub typeAnswerOf : TypeAnswer → Checked ℕ
+typeAnswerOf (typeAnswer.Refused x) = no (numberOf x)
+typeAnswerOf (typeAnswer.Type t) = yes t
 
 -- what reading answered, with what stands beside
 abbrev pub answerOf : Edition → ReadAnswer → Beside → Checked table.Message

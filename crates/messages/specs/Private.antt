@@ -71,7 +71,7 @@ pub record HeadOf (h : Head) (m : table.Message) : Type 0 where
   pub addressed : h .addressed ≡ isAddressed m
   pub limited : isAddressed m ≡ true → h .limited ≡ isLimited m
 
--- a message of at most 58 group values, with room for its payload, and for its frame
+-- a message of at most groupCount group values, with room for its payload, and for its frame
 pub record PayloadRoom (m : table.Message) (n : ℕ) : Type 0 where
   pub most : m .count ≤ groupCount
   pub payload : payloadSize (m .kind) (m .count) ≤ n

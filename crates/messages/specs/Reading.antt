@@ -57,12 +57,22 @@ abbrev pub typed : Edition → Option Kind → List ℕ → Checked Form
 typed e none s = no 3
 typed e (some k) s = sized k (length s) (countRules e (countAt k) s)
 
--- under 19 octets 1, the head's fixed octets 2, then by the type
+-- the type that the head names
+abbrev pub typeIn : List ℕ → ℕ
+typeIn s = read 0 head s .1 .1 .0
+
+module _ {A : Type 0} where
+  -- under 19 octets 1, the head's fixed octets 2, then what follows
+  abbrev pub headed : List ℕ → Checked A → Checked A
+  headed s x = check (leb (size head) (length s)) 1 (check (holds 0 head s) 2 x)
+
+-- a frame's type
+unfoldable pub typeRules : List ℕ → Checked ℕ
+typeRules s = headed s (yes (typeIn s))
+
+-- a frame's form, by the type
 unfoldable pub kindRules : Edition → List ℕ → Checked Form
-kindRules e s =
-    check (leb (size head) (length s)) 1
-    (check (holds 0 head s) 2
-    (typed e (ofType (read 0 head s .1 .1 .0) kinds) s))
+kindRules e s = headed s (typed e (ofType (typeIn s) kinds) s)
 
 -- by the payload octets p, for the frame's destination d and source f: 5, then 6
 abbrev pub payloadRules : Edition → Kind → ℕ → ℕ → ℕ → List ℕ → Checked Message

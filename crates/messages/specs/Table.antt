@@ -110,9 +110,13 @@ head = number 6 ∷ number 6 ∷ is 3 0x88E101 ∷ low 2 (2 ^ 16) ∷ is 2 0 ∷
 abbrev pub filledSize : Kind → ℕ → ℕ
 filledSize k g = size head + payloadSize k g
 
--- the length of a written frame
+-- the length of a written frame with so many octets of head and payload: "the larger of 60" and these
+abbrev pub paddedSize : ℕ → ℕ
+paddedSize n = max 60 n
+
+-- the same of a message
 abbrev pub writtenSize : Kind → ℕ → ℕ
-writtenSize k g = max 60 (filledSize k g)
+writtenSize k g = paddedSize (filledSize k g)
 
 -- the broadcast address: six FF
 abbrev pub broadcast : ℕ

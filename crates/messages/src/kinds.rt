@@ -4,8 +4,9 @@ use crate::GROUPS;
 use crate::Refusal;
 use crate::editions::is_count;
 use crate::group_values::count_at;
-use octets::low_number_at;
-use octets::number_at;
+use crate::heads;
+use crate::heads::HEAD;
+use crate::heads::TypeAnswer;
 ghost use mathlib.Core.Path.{_≡_};
 ghost use Prim.Native.Nat.{_≤_};
 ghost use mathlib.Core.Option.{some};
@@ -33,12 +34,6 @@ pub(crate) enum KindAnswer {
     Found(Kind, usize),
     Refused(Refusal),
 }
-
-// The octets before the payload.
-pub(crate) const HEAD: usize = 19;
-
-// The least length of a written frame.
-const LEAST: usize = 60;
 
 // The column Payload, for a group count.
 pub(crate) fn payload_size(kind: Kind, count: usize) -> usize
@@ -92,8 +87,7 @@ pub(crate) fn written_size(kind: Kind, count: usize) -> usize
     requires { ⌜ count ≤ groupCount ⌝ }
     ensures { λ r. ⌜ r ≡ writtenSize (kindOf kind) count ⌝ }
 {
-    let filled = filled_size(kind, count);
-    if filled <= LEAST { LEAST } else { filled }
+    heads::padded_size(filled_size(kind, count))
 }
 
 // The kind and its group count, unless a frame of n octets is too short or too long for them.
@@ -161,15 +155,9 @@ fn of_type(edition: Edition, number: u64, frame: &[u8]) -> KindAnswer
 pub(crate) fn kind_in(edition: Edition, frame: &[u8]) -> KindAnswer
     ensures { λ r. ⌜ kindAnswerOf r ≡ kindRules edition (now (frame .entry)) ⌝ }
 {
-    let n = frame.len();
-    if HEAD <= n {
-        let fixed = (number_at(frame, 12, 3) == 0x88E101) & (number_at(frame, 17, 2) == 0);
-        if fixed {
-            of_type(edition, low_number_at(frame, 15, 2), frame)
-        } else {
-            KindAnswer::Refused(Refusal::BadHead)
-        }
-    } else {
-        KindAnswer::Refused(Refusal::TooShort)
+    let found = heads::type_in(frame);
+    match found {
+        TypeAnswer::Type(number) => of_type(edition, number, frame),
+        TypeAnswer::Refused(refusal) => KindAnswer::Refused(refusal),
     }
 }

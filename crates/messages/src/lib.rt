@@ -1,6 +1,7 @@
 // The eleven messages of SLAC matching, the nine and the two of validation (ISO 15118-3 Annex A and SAE J2931/4 over HomePlug Green PHY): reading and writing their frames.
 mod editions;
 mod group_values;
+pub mod heads;
 mod id_octets;
 mod kinds;
 mod reader;
@@ -92,6 +93,7 @@ pub enum Refusal {
     EmptyRun,
     OtherTry,
     OtherGroupCount,
+    OtherCarrierCount,
 }
 
 // A message without its group values and its identifiers.
@@ -218,6 +220,7 @@ pub fn refusal_number(refusal: Refusal) -> u32
         Refusal::EmptyRun => 21,
         Refusal::OtherTry => 22,
         Refusal::OtherGroupCount => 23,
+        Refusal::OtherCarrierCount => 24,
     }
 }
 
@@ -282,13 +285,13 @@ pub fn groups(edition: Edition, frame: &[u8]) -> GroupValues
             run: _,
             sounds: _,
             count,
-        } => group_values::groups_at(frame, kinds::HEAD + 52, count),
+        } => group_values::groups_at(frame, heads::HEAD + 52, count),
         Message::AttenProfileInd {
             modem: _,
             station: _,
             car: _,
             count,
-        } => group_values::groups_at(frame, kinds::HEAD + 8, count),
+        } => group_values::groups_at(frame, heads::HEAD + 8, count),
         _ => no_groups(),
     }
 }
@@ -317,30 +320,30 @@ pub fn identifiers(edition: Edition, frame: &[u8]) -> Ids
             run: _,
             sounds: _,
             count: _,
-        } => id_octets::ids_at(frame, kinds::HEAD + 16, kinds::HEAD + 33),
+        } => id_octets::ids_at(frame, heads::HEAD + 16, heads::HEAD + 33),
         Message::AttenCharRsp {
             car: _,
             station: _,
             run: _,
-        } => id_octets::ids_at(frame, kinds::HEAD + 16, kinds::HEAD + 33),
+        } => id_octets::ids_at(frame, heads::HEAD + 16, heads::HEAD + 33),
         Message::MnbcSoundInd {
             car: _,
             count: _,
             run: _,
             random: _,
-        } => id_octets::one_id_at(frame, kinds::HEAD + 2),
+        } => id_octets::one_id_at(frame, heads::HEAD + 2),
         Message::SlacMatchReq {
             car: _,
             station: _,
             run: _,
-        } => id_octets::ids_at(frame, kinds::HEAD + 4, kinds::HEAD + 27),
+        } => id_octets::ids_at(frame, heads::HEAD + 4, heads::HEAD + 27),
         Message::SlacMatchCnf {
             station: _,
             car: _,
             run: _,
             nid: _,
             nmk: _,
-        } => id_octets::ids_at(frame, kinds::HEAD + 4, kinds::HEAD + 27),
+        } => id_octets::ids_at(frame, heads::HEAD + 4, heads::HEAD + 27),
         _ => no_ids(),
     }
 }
