@@ -1,0 +1,12 @@
+pub mod RunLaws
+pub mod HalfLaws
+pub mod LevelLaws
+pub mod AnswerLaws
+pub mod ReadLaws
+pub mod AcceptedLaws
+pub mod WriteLaws
+pub mod ReduceLaws
+pub mod RoundTrips
+pub mod Distinct
+pub mod NamedCars
+pub mod CasesHold

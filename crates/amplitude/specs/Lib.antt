@@ -1,0 +1,10 @@
+pub mod Runs
+pub mod Halves
+pub mod Maps
+pub mod Reading
+pub mod Writing
+pub mod Reductions
+pub mod Answers
+pub mod Private
+pub mod Claims
+pub mod Cases
