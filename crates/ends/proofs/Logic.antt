@@ -1,11 +1,13 @@
 -- Small laws of Bools and of checks.
 use Prim.Native.Nat.{ℕ}
-use mathlib.Core.Path.{_≡_, refl}
+use mathlib.Core.Path.{_≡_, refl, sym, ap}
+use borrow.Author.Tests.{eq-eqb, ne-eqb}
 use mathlib.Core.Bool.{Bool, true, false, cond, _||_}
 use mathlib.Core.List.{List, [], _∷_}
 use native.Mathlib.Omega.{arith}
+use lib.Dec.{eqb}
 use Rattle.messages.specs.Reading.{Checked, no, yes, check}
-use Rattle.ends.specs.Outcomes.{andThen}
+use Rattle.ends.specs.Outcomes.{andThen, orElse}
 
 pub split : {P : Type 0} (b : Bool) → (b ≡ true → P) → (b ≡ false → P) → P
 split true t f = t refl
@@ -44,6 +46,19 @@ on-cond P false x y p q = q refl
 pub on-then : {A B : Type 0} (P : B → Type 0) (w : Checked A) (f : A → Checked B) → ((x : A) → w ≡ yes x → OnYes P (f x)) → OnYes P (andThen w f)
 on-then P (no n) f h = tt
 on-then P (yes x) f h = h x refl
+
+-- and of either of two readings
+module _ {A B : Type 0} (f : A → Checked B) (y : Checked B) where
+  pub on-else : (P : B → Type 0) (x : Checked A) → OnYes P (andThen x f) → OnYes P y → OnYes P (orElse x f y)
+  on-else P (yes x) h k = h
+  on-else P (no n) h k = split (eqb n 3) (λ e. rw e k) (λ e. rw e tt)
+
+  -- where the type is none of the first reading's, and where it is
+  pub else-third : (n : ℕ) → n ≡ 3 → y ≡ orElse (no n) f y
+  else-third n e = ap (λ (b : Bool). cond b y (no n)) (sym (eq-eqb n 3 e))
+
+  pub else-refused : (n : ℕ) → (n ≡ 3 → ⊥) → no n ≡ orElse (no n) f y
+  else-refused n e = ap (λ (b : Bool). cond b y (no n)) (sym (ne-eqb n 3 e))
 
 -- a check before an answer is one before what follows it
 pub then-check : {A B : Type 0} (b : Bool) (n : ℕ) (w : Checked A) (f : A → Checked B) → check b n (andThen w f) ≡ andThen (check b n w) f

@@ -1,6 +1,8 @@
 -- What a call gives: the number of a refusal, or frames as octets and an indication.
 use Prim.Native.Nat.{ℕ}
+use mathlib.Core.Bool.{cond}
 use mathlib.Core.List.{List, []}
+use lib.Dec.{eqb}
 use Rattle.messages.specs.Reading.{Checked, no, yes}
 use Rattle.ends.specs.declared.Indication.{Indication}
 use Rattle.ends.specs.Lists.{joins}
@@ -28,6 +30,12 @@ module _ {A B : Type 0} where
   abbrev pub andThen : Checked A → (A → Checked B) → Checked B
   andThen (no n) f = no n
   andThen (yes x) f = f x
+
+module _ {A B : Type 0} where
+  -- what follows what was read; another reading in the place of refusal 3, "type not in the table"
+  abbrev pub orElse : Checked A → (A → Checked B) → Checked B → Checked B
+  orElse (yes x) f y = f x
+  orElse (no n) f y = cond (eqb n 3) y (no n)
 
 -- what an accepted call does: what it leaves, and what it gives
 pub record Done (S : Type 0) : Type 0 where

@@ -10,11 +10,11 @@ use messages::Refusal;
 use messages::Written;
 ghost use mathlib.Core.Path.{_≡_};
 ghost use Prim.Native.Nat.{_-_};
-ghost use Rattle.messages.specs.Answers.{messageOf, besides};
-ghost use Rattle.ends.specs.Answers.{indicationNumber};
+ghost use Rattle.messages.specs.Answers.{messageOf, besides, writtenOf};
+ghost use Rattle.ends.specs.Answers.{answerOf, indicationNumber};
 ghost use Rattle.ends.specs.Clock as clock;
 ghost use Rattle.ends.specs.Clock.{tickTimeOf, tickTime};
-ghost use Rattle.ends.specs.Sending.{Sends};
+ghost use Rattle.ends.specs.Sending.{toldOf, Sends};
 
 // How often a request or a report is sent again: C_EV_match_retry.
 pub const RETRIES: u8 = 2;
@@ -104,6 +104,20 @@ pub fn left_after(time: u32, elapsed: u32) -> u32
     if time <= elapsed { 0 } else { time - elapsed }
 }
 
+// What is told of one frame that was written, with an indication; or what writing refuses.
+pub fn told(written: Written, indication: Indication) -> Answer
+    ensures { λ r. ⌜ answerOf r ≡ toldOf indication (writtenOf written) ⌝ }
+{
+    match written {
+        Written::Octets(octets) => Answer::Done {
+            frames: 1,
+            octets: octets,
+            indication: indication,
+        },
+        Written::Refused(refusal) => Answer::Refused(refusal),
+    }
+}
+
 // Writes a message in an edition from the output's first octet and tells of its one frame, with an indication; or what writing refuses.
 pub fn send(
     edition: Edition,
@@ -115,13 +129,8 @@ pub fn send(
 ) -> Answer
     ensures { λ r. ⌜ Sends (messageOf edition message (besides values ids)) indication (now (out .entry)) (now (out .exit)) r ⌝ }
 {
-    let written = messages::write(edition, message, values, ids, out);
-    match written {
-        Written::Octets(octets) => Answer::Done {
-            frames: 1,
-            octets: octets,
-            indication: indication,
-        },
-        Written::Refused(refusal) => Answer::Refused(refusal),
-    }
+    told(
+        messages::write(edition, message, values, ids, out),
+        indication,
+    )
 }
