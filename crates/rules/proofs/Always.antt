@@ -7,7 +7,7 @@ use lib.Dec.{leb}
 use Rattle.messages.specs.declared.CarAddress.{CarAddress}
 use Rattle.messages.specs.declared.RunId.{RunId}
 use Rattle.messages.specs.Table.{isUnicast}
-use Rattle.messages.specs.Reading.{Checked, no, yes, readRules}
+use Rattle.messages.specs.Reading.{Checked, no, yes}
 use Rattle.rules.specs.declared.Configuration.{Configuration}
 use Rattle.rules.specs.declared.Record.{Record}
 use Rattle.rules.specs.declared.State.{State}
@@ -18,14 +18,15 @@ use Rattle.rules.specs.Calls.{Call, frame, tick, pilot, terminate, linkU
 use Rattle.ends.specs.Outcomes.{andThen, next}
 use Rattle.rules.specs.Stations.{Shared, Inner, Done}
 use Rattle.rules.specs.Records.{sameCar, sameRun, mine, freePlaces, noneHeld, freed}
-use Rattle.rules.specs.Received.{RecordMessage, Request, forRecord, matchReq, Received, received}
+use Rattle.rules.specs.Received.{RecordMessage, Request, forRecord, matchReq, mapReq, Received, received}
 use Rattle.rules.specs.Validation.{firstResult, turn, toggledRecord}
 use Rattle.rules.specs.Events.{plugged, isB, ended, pilotDone, linkRule}
 use Rattle.rules.specs.Frames.{Change, changeRule, matchRule, put, changed, confirmed, stateRule, admitted, frameRule}
 use Rattle.rules.specs.Ticks.{tickElapsed, tickRecord, allFrames, admissionDone, joiningDone, tickDone}
 use Rattle.rules.specs.Rules.{rule, step, after}
 use Rattle.ends.proofs.Logic.{OnYes, on-check}
-use Rattle.rules.proofs.ReceivedLaws.{ReadAs, read-as}
+use Rattle.rules.proofs.ReceivedLaws.{FrameAs, read-as}
+use Rattle.rules.proofs.RuleLaws.{on-map}
 
 -- what a frame's request must meet, where it is not refused before a record is looked at
 abbrev pub Meets : (Request → Type 0) → Configuration → Call → Type 0
@@ -59,11 +60,15 @@ module _ (P : List Record → Type 0) (F : Request → Type 0) (o : Shared)
   of-state Unmatched rs c m u f h = tt
   of-state (Matching a) rs c (forRecord m) u f h = of-change _ rs c (changeRule (o .config .edition) c m a (freePlaces rs) (firstResult (o .config .exempt) rs) (mine c rs)) (puts c u m f a (o .config .exempt) rs h)
   of-state (Matching t) rs c (matchReq run a b) u f h = of-match _ rs c run a b (matchRule run (mine c rs)) h
+  of-state (Matching t) rs c (mapReq n) u f h = tt
   of-state (Joining l d k) rs c (forRecord m) u f h = tt
   of-state (Joining l d k) rs c (matchReq run a b) u f h = on-check Keeps (sameCar c d && sameRun run k) 11 _ (λ e. h)
-  of-state Matched rs c m u f h = tt
+  of-state (Joining l d k) rs c (mapReq n) u f h = tt
+  of-state (Matched d) rs c (forRecord m) u f h = tt
+  of-state (Matched d) rs c (matchReq run a b) u f h = tt
+  of-state (Matched d) rs c (mapReq n) u f h = on-map Keeps (o .config) d rs c n h
 
-  of-frame : (i : Inner) (s : List ℕ) (w : Checked Received) → OnYes (ReadAs (readRules (o .config .edition) s)) w → OnYes (λ (y : Received). F (y .request)) w → P (i .records)
+  of-frame : (i : Inner) (s : List ℕ) (w : Checked Received) → OnYes (FrameAs (o .config .edition) s) w → OnYes (λ (y : Received). F (y .request)) w → P (i .records)
       → OnYes Keeps (frameRule (o .config) i w)
   of-frame i s (no n) t f h = tt
   of-frame i s (yes y) t f h = of-state (i .state) (i .records) (y .car) (y .request) (t .unicast) f h
@@ -84,7 +89,7 @@ module _ (P : List Record → Type 0) (F : Request → Type 0) (o : Shared)
   of-tick b e Unmatched rs h = h
   of-tick b e (Matching a) rs h = of-admission (a - e) (noneHeld (map (tickRecord b e) rs)) (map (tickRecord b e) rs) (allFrames (o .config) b e rs) (ticks b e rs h)
   of-tick b e (Joining l c run) rs h = of-joining (leb l e) (l - e) c run rs h
-  of-tick b e Matched rs h = h
+  of-tick b e (Matched c) rs h = h
 
   of-elapsed : (b : Bool) (i : Inner) (w : Checked ℕ) → P (i .records) → OnYes Keeps (andThen w (λ (e : ℕ). yes (tickDone (o .config) b e (i .state) (i .records))))
   of-elapsed b i (no n) h = tt
@@ -102,7 +107,7 @@ module _ (P : List Record → Type 0) (F : Request → Type 0) (o : Shared)
   of-link Unmatched rs h = tt
   of-link (Matching a) rs h = tt
   of-link (Joining l c run) rs h = h
-  of-link Matched rs h = tt
+  of-link (Matched c) rs h = tt
 
   of-rule : (i : Inner) (x : Call) → Meets F (o .config) x → P (i .records) → OnYes Keeps (rule o i x)
   unfolding rule

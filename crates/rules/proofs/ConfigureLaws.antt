@@ -1,4 +1,5 @@
 -- What configuring promises, from the parts that its code computes.
+use Prim.Native.Nat.{ℕ}
 use mathlib.Core.Path.{_≡_, sym, _∙_, subst}
 use mathlib.Core.Bool.{Bool, true, false}
 use mathlib.Core.List.{List}
@@ -24,26 +25,26 @@ use Rattle.ends.specs.Answers.{answerOf, summary}
 use Rattle.rules.specs.Answers.{Configures}
 use Rattle.rules.proofs.InvariantKept.{configured-keeps}
 
-module _ (a : StationAddress) (m : ModemAddress) (nid : Nid) (nmk : Nmk) (exempt : Bool) (edition : Edition) (g : Bool) (rs : List Record) (e : g ≡ isGood a m nid) (r : rs ≡ replicate recordCount freeRecord) where
+module _ (a : StationAddress) (m : ModemAddress) (nid : Nid) (nmk : Nmk) (exempt : Bool) (edition : Edition) (carriers : ℕ) (g : Bool) (rs : List Record) (e : g ≡ isGood a m nid carriers) (r : rs ≡ replicate recordCount freeRecord) where
   abbrev made : Station
   made = record {
-    config = record { good = g; address = a; modem = m; nid = nid; nmk = nmk; exempt = exempt; edition = edition };
+    config = record { good = g; address = a; modem = m; nid = nid; nmk = nmk; exempt = exempt; edition = edition; carriers = carriers };
     state = Unmatched;
     pilot = A;
     clock = 0;
     records = rs;
   }
 
-  is-configured : made ≡ configured a m nid nmk exempt edition
+  is-configured : made ≡ configured a m nid nmk exempt edition carriers
   unfolding configured
   is-configured = rw (e, r)
 
-  promised : (x : Answer) → answerOf x ≡ summary (configuring a m nid) → Configures a m nid nmk exempt edition (record { station = made; answer = x })
-  promised x h = record { station = is-configured; answer = h; kept = subst Invariant (sym is-configured) (configured-keeps a m nid nmk exempt edition) }
+  promised : (x : Answer) → answerOf x ≡ summary (configuring a m nid carriers) → Configures a m nid nmk exempt edition carriers (record { station = made; answer = x })
+  promised x h = record { station = is-configured; answer = h; kept = subst Invariant (sym is-configured) (configured-keeps a m nid nmk exempt edition carriers) }
 
-  pub promised-good : g ≡ true → Configures a m nid nmk exempt edition (record { station = made; answer = Done 0 0 Nothing })
+  pub promised-good : g ≡ true → Configures a m nid nmk exempt edition carriers (record { station = made; answer = Done 0 0 Nothing })
   unfolding joins
   promised-good t = promised (Done 0 0 Nothing) (rw (sym e ∙ t))
 
-  pub promised-bad : g ≡ false → Configures a m nid nmk exempt edition (record { station = made; answer = Refused BadConfiguration })
+  pub promised-bad : g ≡ false → Configures a m nid nmk exempt edition carriers (record { station = made; answer = Refused BadConfiguration })
   promised-bad t = promised (Refused BadConfiguration) (rw (sym e ∙ t))

@@ -30,23 +30,23 @@ unfolding only freeRecord
 mine-free c zero = refl
 mine-free c (suc n) = rw (holds-free c freeRecord (freed-free _)) (mine-free c n)
 
-module _ (address : StationAddress) (modem : ModemAddress) (nid : Nid) (nmk : Nmk) (exempt : Bool) (edition : Edition) where
-  some-place : 0 < length (configured address modem nid nmk exempt edition .records)
+module _ (address : StationAddress) (modem : ModemAddress) (nid : Nid) (nmk : Nmk) (exempt : Bool) (edition : Edition) (carriers : ℕ) where
+  some-place : 0 < length (configured address modem nid nmk exempt edition carriers .records)
   unfolding configured
   some-place = rw (length-replicate recordCount freeRecord) (omega arith)
 
-  all-unicast : All Unicast (configured address modem nid nmk exempt edition .records)
+  all-unicast : All Unicast (configured address modem nid nmk exempt edition carriers .records)
   unfolding configured freeRecord
   all-unicast = all-replicate Unicast freeRecord (unicast-freed _) recordCount
 
   -- "its record": no car ever holds two
-  pub one-record : (xs : List Call) (c : CarAddress) → length (mine c (after (configured address modem nid nmk exempt edition) xs .records)) ≤ 1
+  pub one-record : (xs : List Call) (c : CarAddress) → length (mine c (after (configured address modem nid nmk exempt edition carriers) xs .records)) ≤ 1
   unfolding configured
-  one-record xs = one-after (configured address modem nid nmk exempt edition) xs (λ c. rw (mine-free c recordCount) (omega arith))
+  one-record xs = one-after (configured address modem nid nmk exempt edition carriers) xs (λ c. rw (mine-free c recordCount) (omega arith))
 
-  pub cars-do-not-disturb : Demand3 (configured address modem nid nmk exempt edition)
+  pub cars-do-not-disturb : Demand3 (configured address modem nid nmk exempt edition carriers)
   cars-do-not-disturb = record {
-    undisturbed = undisturbed (configured address modem nid nmk exempt edition) some-place all-unicast;
-    undisturbed-shorter = undisturbed-shorter (configured address modem nid nmk exempt edition) some-place all-unicast;
-    order-free = order-free (configured address modem nid nmk exempt edition);
+    undisturbed = undisturbed (configured address modem nid nmk exempt edition carriers) some-place all-unicast;
+    undisturbed-shorter = undisturbed-shorter (configured address modem nid nmk exempt edition carriers) some-place all-unicast;
+    order-free = order-free (configured address modem nid nmk exempt edition carriers);
   }

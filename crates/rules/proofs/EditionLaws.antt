@@ -3,7 +3,6 @@ use Prim.Native.Nat.{ℕ}
 use mathlib.Core.Path.{_≡_, _∙_, ap, subst}
 use mathlib.Core.List.{List}
 use Rattle.messages.specs.declared.Edition.{Edition}
-use Rattle.messages.specs.Reading.{readRules}
 use Rattle.rules.specs.declared.Configuration.{Configuration}
 use Rattle.rules.specs.declared.Station.{Station}
 use Rattle.rules.specs.Calls.{Call}
@@ -12,14 +11,14 @@ use Rattle.rules.specs.Received.{received}
 use Rattle.rules.specs.Frames.{admitted}
 use Rattle.rules.specs.Rules.{step, after}
 use Rattle.ends.proofs.Logic.{OnYes}
-use Rattle.rules.proofs.ReceivedLaws.{ReadAs, read-as}
+use Rattle.rules.proofs.ReceivedLaws.{FrameAs, read-as}
 use Rattle.rules.proofs.Always.{after-all}
 use Rattle.rules.proofs.InvariantKept.{config-same}
 
 module _ (e : Edition) where
   -- what a station of this edition receives is what the octets say in this edition
-  pub read-in : (o : Configuration) → o .edition ≡ e → (room : ℕ) (s : List ℕ) → OnYes (ReadAs (readRules e s)) (admitted o room (received (o .edition) s))
-  read-in o q room s = subst (λ (d : Edition). OnYes (ReadAs (readRules d s)) (admitted o room (received (o .edition) s))) q (read-as (o .edition) o room s)
+  pub read-in : (o : Configuration) → o .edition ≡ e → (room : ℕ) (s : List ℕ) → OnYes (FrameAs e s) (admitted o room (received (o .edition) s))
+  read-in o q room s = subst (λ (d : Edition). OnYes (FrameAs d s) (admitted o room (received (o .edition) s))) q (read-as (o .edition) o room s)
 
   pub edition-step : (s : Station) (x : Call) → s .config .edition ≡ e → step s x .config .edition ≡ e
   unfolding step

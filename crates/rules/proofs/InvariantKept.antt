@@ -6,7 +6,7 @@ use mathlib.Core.List.{List, [], _∷_}
 use native.Mathlib.Omega.{arith}
 use native.Mathlib.Nat.{one-le-pow}
 use lib.Dec.{eqb, leb, ltb}
-use lib.ListN.{getD, replicate}
+use lib.ListN.{getD}
 use borrow.Author.Tests.{not-true, eqb-true, eqb-false, ltb-true, leb-false}
 use Rattle.messages.specs.declared.CarAddress.{CarAddress}
 use Rattle.messages.specs.declared.Edition.{Edition}
@@ -37,7 +37,8 @@ use Rattle.rules.specs.Received.{RecordMessage, parmReq, start, sound, p
 use Rattle.rules.specs.Validation.{firstResult, oneMore, counts, toggledPhase, toggledRecord}
 use Rattle.rules.specs.Frames.{Place, Change, isLater, startRule, soundRule, profileRule, rspRule, answered, firstRule, secondRule, changeRule}
 use Rattle.rules.specs.Ticks.{Ticked, nowFree, stillHeld, windowEnds, tickElapsed, tickPhase, recordOf, tickRecord}
-use Rattle.rules.specs.Rules.{freeRecord, configured, takesReading, takesPilot, sharedStep, step}
+use Rattle.amplitude.specs.Maps.{isCarriers}
+use Rattle.rules.specs.Rules.{mayReply, freeRecord, configured, takesReading, takesPilot, sharedStep, step}
 use Rattle.rules.specs.FromOctets.{CountedValues, OctetRequest}
 use Rattle.rules.specs.Invariant.{Within, Reportable, InPhase, TryFits, GroupsFit, GoodRecord, GoodConfiguration, Invariant, OctetCall}
 use Rattle.ends.proofs.Logic.{split, clash, OnYes, on-cond}
@@ -343,19 +344,23 @@ step-keeps s x h i = record {
 
 -- ---- configuring
 
-pub configured-keeps : (address : StationAddress) (modem : ModemAddress) (nid : Nid) (nmk : Nmk) (exempt : Bool) (edition : Edition) → Invariant (configured address modem nid nmk exempt edition)
-unfolding configured freeRecord
-configured-keeps a m nid nmk exempt e =
-    let x = isUnicast (a .0) in
-    let y = isUnicast (m .0) in
-    let z = not (eqb (a .0) (m .0)) in
-    let w = ltb (nid .0) (2 ^ 54) in
+-- a configuration that is marked good only where replies can be sent
+pub config-good : (o : Configuration) → (o .good ≡ true → mayReply (o .address) (o .modem) (o .nid) ≡ true) → GoodConfiguration o
+config-good o h =
+    let x = isUnicast (o .address .0) in
+    let y = isUnicast (o .modem .0) in
+    let z = not (eqb (o .address .0) (o .modem .0)) in
+    let w = ltb (o .nid .0) (2 ^ 54) in
     record {
-      config = record {
-        address = λ g. and-left x y (and-left (x && y) z (and-left (x && y && z) w g));
-        modem = λ g. and-right x y (and-left (x && y) z (and-left (x && y && z) w g));
-        different = λ g. eqb-false (a .0) (m .0) (not-true _ (and-right (x && y) z (and-left (x && y && z) w g)));
-        nid = λ g. ltb-true (nid .0) (2 ^ 54) (and-right (x && y && z) w g);
-      };
-      records = all-replicate (GoodRecord e) freeRecord (good-freed e _ (fit-fresh e _ _ _ (first-fits e))) recordCount;
+      address = λ g. and-left x y (and-left (x && y) z (and-left (x && y && z) w (h g)));
+      modem = λ g. and-right x y (and-left (x && y) z (and-left (x && y && z) w (h g)));
+      different = λ g. eqb-false (o .address .0) (o .modem .0) (not-true _ (and-right (x && y) z (and-left (x && y && z) w (h g))));
+      nid = λ g. ltb-true (o .nid .0) (2 ^ 54) (and-right (x && y && z) w (h g));
     }
+
+pub configured-keeps : (address : StationAddress) (modem : ModemAddress) (nid : Nid) (nmk : Nmk) (exempt : Bool) (edition : Edition) (carriers : ℕ) → Invariant (configured address modem nid nmk exempt edition carriers)
+unfolding configured freeRecord
+configured-keeps a m nid nmk exempt e carriers = record {
+  config = config-good _ (λ g. and-left (mayReply a m nid) (isCarriers carriers) g);
+  records = all-replicate (GoodRecord e) freeRecord (good-freed e _ (fit-fresh e _ _ _ (first-fits e))) recordCount;
+}

@@ -1,6 +1,6 @@
 -- Demand 3, part one: how the two stations stand to each other, and what keeps it.
 use Prim.Native.Nat.{ℕ, _<_, _≤_}
-use mathlib.Core.Path.{_≡_, refl, sym, _∙_}
+use mathlib.Core.Path.{_≡_, refl, sym, _∙_, ap}
 use mathlib.Core.Bool.{true, false}
 use mathlib.Core.List.{List, [], map}
 use native.Mathlib.Omega.{arith}
@@ -9,11 +9,12 @@ use Rattle.messages.specs.declared.CarAddress.{CarAddress}
 use Rattle.messages.specs.Reading.{Checked, no}
 use Rattle.rules.specs.declared.Record.{Record}
 use Rattle.rules.specs.declared.State.{State}
-use Rattle.rules.specs.declared.State.the-variants.{Unmatched, Matching}
+use Rattle.rules.specs.declared.State.the-variants.{Unmatched, Matching, Matched}
 use Rattle.ends.specs.Outcomes.{next, outcomeOf}
 use Rattle.rules.specs.Stations.{Inner, Done}
 use Rattle.rules.specs.Records.{sameCar, mine, freePlaces, noneHeld, freed}
 use Rattle.rules.specs.Frames.{Place, ownPlace, freePlace, put}
+use Rattle.rules.specs.Numbers.{stateNumber}
 use Rattle.rules.specs.Demand3.{repliesIn}
 use Rattle.ends.proofs.Logic.{split}
 use Rattle.rules.proofs.RecordLaws.{same-eq, Ready, takes, same-put, mine-put-other, length-put, mine-freed, Keeping, same-map, none-map, mine-none, free-all}
@@ -29,6 +30,12 @@ pub data Ahead (own : List Record) : State → State → Type 0 where
   both : {a : ℕ} → Ahead own (Matching a) (Matching a)
   late : {a : ℕ} → a ≡ 0 → own ≡ [] → Ahead own (Matching a) Unmatched
   out : own ≡ [] → Ahead own Unmatched Unmatched
+
+-- neither is Matched
+pub not-matched : (own : List Record) (st st′ : State) (d : CarAddress) → Ahead own st st′ → st ≡ Matched d → ⊥
+not-matched own st st′ d (both {a}) e = let z : _≡_ {A = ℕ} 1 3 = ap stateNumber e in omega arith
+not-matched own st st′ d (late {a} z k) e = let z : _≡_ {A = ℕ} 1 3 = ap stateNumber e in omega arith
+not-matched own st st′ d (out k) e = let z : _≡_ {A = ℕ} 0 3 = ap stateNumber e in omega arith
 
 pub record Near (c : CarAddress) (i j : Inner) : Type 0 where
   pub alone : Alone c (i .records) (j .records)

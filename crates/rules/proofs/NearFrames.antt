@@ -17,7 +17,7 @@ use Rattle.ends.specs.Outcomes.{framesOf, andThen, next, outcomeOf}
 use Rattle.rules.specs.Stations.{Inner, Done}
 use Rattle.rules.specs.Records.{sameCar, sameRun, mine, freePlaces, freed}
 use Rattle.rules.specs.Replies.{confirmation, framesTo}
-use Rattle.rules.specs.Received.{RecordMessage, Request, forRecord, matchReq}
+use Rattle.rules.specs.Received.{RecordMessage, Request, forRecord, matchReq, mapReq}
 use Rattle.rules.specs.Validation.{firstResult}
 use Rattle.rules.specs.Frames.{Change, changeRule, matchRule, changed, confirmed, stateRule}
 use Rattle.rules.specs.Demand3.{accepted, isTen, anyFailure, repliesIn}
@@ -28,7 +28,7 @@ use Rattle.rules.proofs.RuleLaws.{isAsk, isValidate, refusedTen, SameRe
 use Rattle.rules.proofs.ReceivedLaws.{isMatch, asksIn, validatesIn}
 use Rattle.rules.proofs.ReplyLaws.{sent-other}
 use Rattle.rules.proofs.ValidationLaws.{fewer-result, fails}
-use Rattle.rules.proofs.Near.{Alone, Ahead, both, late, out, Near, BothGet, stays, alone-takes, alone-put, alone-other}
+use Rattle.rules.proofs.Near.{Alone, Ahead, both, late, out, not-matched, Near, BothGet, stays, alone-takes, alone-put, alone-other}
 
 -- refused with 10, of a change and of its outcome
 pub ten-change : (o : Configuration) (st : State) (rs : List Record) (c : CarAddress) (w : Checked Change) → isTen (outcomeOf (andThen w (λ (x : Change). yes (changed o st rs c x)))) ≡ refusedTen w
@@ -90,6 +90,7 @@ unfolding stateRule
 late-state o c (forRecord m) rs zero z e = let r = change-closed (o .edition) c m (freePlaces rs) (firstResult (o .exempt) rs) in (r .0, rw (e, r .1))
 late-state o c (forRecord m) rs (suc a) z e = absurd (omega arith)
 late-state o c (matchReq run x y) rs a z e = (11, rw (e, match-none run))
+late-state o c (mapReq n) rs a z e = (8, refl)
 
 own-state : (o : Configuration) (c : CarAddress) (m : Request) (st st′ : State) (rs rs′ : List Record) → Alone c rs rs′ → Ahead (mine c rs′) st st′
     → isMatch m && accepted (outcomeOf (stateRule o st rs c m)) ≡ false → asksIn m && isTen (outcomeOf (stateRule o st rs c m)) ≡ false
@@ -98,6 +99,7 @@ own-state : (o : Configuration) (c : CarAddress) (m : Request) (st st′ : State
 unfolding stateRule
 own-state o c (forRecord m) st st′ rs rs′ h (both {a}) p t v = own-record o c a rs rs′ h m t v
 own-state o c (matchReq run x y) st st′ rs rs′ h (both {a}) p t v = rw (← h .own) (own-matched o c a rs rs′ h run x y (matchRule run (mine c rs)) p)
+own-state o c (mapReq n) st st′ rs rs′ h (both {a}) p t v = stays c _ _ 8 8 (record { alone = h; states = both })
 own-state o c m st st′ rs rs′ h (late {a} z e) p t v =
     let r = late-state o c m rs a z (h .own ∙ e) in
     rw (r .1) (stays c _ _ (r .0) 8 (record { alone = h; states = late z e }))
@@ -146,9 +148,11 @@ module _ (o : Configuration) (c d : CarAddress) (u : isUnicast (d .0) ≡ true) 
   other-state m Unmatched e t = passes c i j 8 h
   other-state (forRecord m) (Matching a) e t = other-changed _ e (changeRule (o .edition) d m a (freePlaces (i .records)) (firstResult (o .exempt) (i .records)) (mine d (i .records)))
   other-state (matchReq run x y) (Matching a) e t = other-matched (Joining joiningTime d run) (map freed (i .records)) run x y (matchRule run (mine d (i .records))) t
+  other-state (mapReq n) (Matching a) e t = passes c i j 8 h
   other-state (forRecord m) (Joining l b k) e t = passes c i j 8 h
   other-state (matchReq run x y) (Joining l b k) e t = other-again (Joining l b k) (i .records) run x y (sameCar d b && sameRun run k) t
-  other-state m Matched e t = passes c i j 8 h
+  other-state (mapReq n) (Joining l b k) e t = passes c i j 8 h
+  other-state m (Matched b) e t = absurd (not-matched (mine c (j .records)) (i .state) (j .state) b (h .states) e)
 
   pub other-frame : (m : Request) → isMatch m && accepted (outcomeOf (stateRule o (i .state) (i .records) d m)) ≡ false → FirstGets c i j (stateRule o (i .state) (i .records) d m)
   other-frame m t = other-state m (i .state) refl t
@@ -171,6 +175,7 @@ end-state : (o : Configuration) (c : CarAddress) (m : Request) (i j : Inner) (st
     → isMatch m && accepted (outcomeOf (stateRule o st rs c m)) ≡ true → Ends c i j (stateRule o st rs c m) (stateRule o st′ rs′ c m)
 unfolding stateRule accepted
 end-state o c (forRecord m) i j st st′ rs rs′ h g t = clash true refl (sym t)
+end-state o c (mapReq n) i j st st′ rs rs′ h g t = clash true refl (sym t)
 end-state o c (matchReq run x y) i j st st′ rs rs′ h (both {a}) t = rw (← h .own) (end-matched o c i j rs rs′ run x y (matchRule run (mine c rs)) t)
 end-state o c (matchReq run x y) i j st st′ rs rs′ h (late {a} z e) t = clash true refl (sym (rw (h .own ∙ e, match-none run) at t))
 end-state o c (matchReq run x y) i j st st′ rs rs′ h (out e) t = clash true refl (sym t)

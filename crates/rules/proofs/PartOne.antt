@@ -8,7 +8,7 @@ use borrow.Author.Tests.{not-true, not-false}
 use Rattle.messages.specs.declared.CarAddress.{CarAddress}
 use Rattle.messages.specs.declared.Edition.{Edition}
 use Rattle.messages.specs.Table.{slacParmReq, validateReq, slacMatchReq}
-use Rattle.messages.specs.Reading.{Checked, no, yes, readRules}
+use Rattle.messages.specs.Reading.{Checked, no, yes}
 use Rattle.messages.proofs.LayoutLaws.{and-left, and-right}
 use Rattle.rules.specs.declared.Configuration.{Configuration}
 use Rattle.rules.specs.declared.Station.{Station}
@@ -27,7 +27,7 @@ use Rattle.rules.specs.Demand3.{named, isCar, isOther, without, accepted
 use Rattle.ends.proofs.Logic.{split, clash, or-left, or-right, OnYes}
 use Rattle.ends.proofs.ListLaws.{only-yes, only-no}
 use Rattle.rules.proofs.RecordLaws.{same-eq}
-use Rattle.rules.proofs.ReceivedLaws.{isMatch, asksIn, validatesIn, ReadAs}
+use Rattle.rules.proofs.ReceivedLaws.{isMatch, asksIn, validatesIn, FrameAs}
 use Rattle.rules.proofs.ReplyLaws.{Unicast}
 use Rattle.rules.proofs.Reached.{unicast-next, unicast-after, length-after}
 use Rattle.rules.proofs.EditionLaws.{read-in, edition-step, edition-after}
@@ -38,7 +38,7 @@ use Rattle.rules.proofs.NearFrames.{own-frame, FirstGets, passes, other
 -- ---- a frame
 
 -- the words of the demand, said of what was received
-module _ (e : Edition) (c : CarAddress) (s : List ℕ) (room : ℕ) (y : Received) (t : ReadAs (readRules e s) y) where
+module _ (e : Edition) (c : CarAddress) (s : List ℕ) (room : ℕ) (y : Received) (t : FrameAs e s y) where
   is-other : isOther c (named e (frame s room)) ≡ not (sameCar c (y .car))
   unfolding named isOther
   is-other = rw (t .car)
@@ -77,7 +77,7 @@ module _ (e : Edition) (c : CarAddress) (s : List ℕ) (room : ℕ) (y : Receive
   lasts-validate u p g = ap (λ q. q && anyFailure (framesOf u)) (sym is-validate) ∙ own-part (isKind e validateReq (frame s room)) (anyFailure (framesOf u)) p (or-right (endsFor e c (frame s room) u) _ g)
 
 -- one that both get
-both-frame : (e : Edition) (o : Configuration) (c : CarAddress) (i j : Inner) (s : List ℕ) (room : ℕ) (w : Checked Received) → OnYes (ReadAs (readRules e s)) w → Near c i j
+both-frame : (e : Edition) (o : Configuration) (c : CarAddress) (i j : Inner) (s : List ℕ) (room : ℕ) (w : Checked Received) → OnYes (FrameAs e s) w → Near c i j
     → isOther c (named e (frame s room)) ≡ false → ends e c (frame s room) (outcomeOf (frameRule o i w)) ≡ false → BothGet c i j (frameRule o i w) (frameRule o j w)
 both-frame e o c i j s room (no n) t h f g = stays c i j n n h
 both-frame e o c i j s room (yes y) t h f g =
@@ -89,14 +89,14 @@ both-frame e o c i j s room (yes y) t h f g =
     rw (← q) (own-frame o c (y .request) i j h (rw (← q) at a) (rw (← q) at b) (rw (← q) at d))
 
 -- one that only the first gets
-skip-frame : (e : Edition) (o : Configuration) (c : CarAddress) (i j : Inner) (s : List ℕ) (room : ℕ) (w : Checked Received) → OnYes (ReadAs (readRules e s)) w → Near c i j
+skip-frame : (e : Edition) (o : Configuration) (c : CarAddress) (i j : Inner) (s : List ℕ) (room : ℕ) (w : Checked Received) → OnYes (FrameAs e s) w → Near c i j
     → isOther c (named e (frame s room)) ≡ true → ends e c (frame s room) (outcomeOf (frameRule o i w)) ≡ false → FirstGets c i j (frameRule o i w)
 skip-frame e o c i j s room (no n) t h f g = passes c i j n h
 skip-frame e o c i j s room (yes y) t h f g =
     other-frame o c (y .car) (t .unicast) (not-true _ (sym (is-other e c s room y t) ∙ f)) i j h (y .request) (lasts-match e c s room y t _ g)
 
 -- the car's own accepted match request
-match-frame : (e : Edition) (o : Configuration) (c : CarAddress) (i j : Inner) (s : List ℕ) (room : ℕ) (w : Checked Received) → OnYes (ReadAs (readRules e s)) w → Near c i j
+match-frame : (e : Edition) (o : Configuration) (c : CarAddress) (i j : Inner) (s : List ℕ) (room : ℕ) (w : Checked Received) → OnYes (FrameAs e s) w → Near c i j
     → isKind e slacMatchReq (frame s room) && isCar c (named e (frame s room)) && accepted (outcomeOf (frameRule o i w)) ≡ true
     → (isOther c (named e (frame s room)) ≡ false) × Ends c i j (frameRule o i w) (frameRule o j w)
 unfolding accepted

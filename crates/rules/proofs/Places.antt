@@ -3,7 +3,7 @@ use Prim.Native.Nat.{ℕ, zero, suc, _-_}
 use mathlib.Core.Path.{_≡_, refl, sym, _∙_, subst}
 use mathlib.Core.Bool.{Bool, true, false, _&&_}
 use mathlib.Core.List.{List, [], _∷_, map}
-use lib.Dec.{leb}
+use lib.Dec.{eqb, leb}
 use lib.ListN.{length, length-map}
 use Rattle.messages.specs.declared.CarAddress.{CarAddress}
 use Rattle.messages.specs.declared.RunId.{RunId}
@@ -21,10 +21,10 @@ use Rattle.ends.specs.Outcomes.{andThen, next, outcomeOf}
 use Rattle.rules.specs.Stations.{Shared, Inner, shared, inner, build, Done}
 use Rattle.rules.specs.Records.{sameCar, sameRun, isHeld, mine, freePlaces, noneHeld, freed}
 use Rattle.rules.specs.Replies.{Reply, isReport, isConfirmation}
-use Rattle.rules.specs.Received.{Request, forRecord, matchReq, Received, received}
+use Rattle.rules.specs.Received.{Request, forRecord, matchReq, mapReq, Received, received}
 use Rattle.rules.specs.Validation.{firstResult, turn, toggledRecord}
 use Rattle.rules.specs.Events.{plugged, isB, ended, pilotDone, linkRule}
-use Rattle.rules.specs.Frames.{Place, Change, changeRule, matchRule, put, changed, confirmed, stateRule, admitted, frameRule}
+use Rattle.rules.specs.Frames.{Place, Change, changeRule, matchRule, put, changed, confirmed, mapRule, stateRule, admitted, frameRule}
 use Rattle.rules.specs.Ticks.{tickElapsed, tickRecord, tickFrames, framesOfAll, allFrames, admissionDone, joiningDone, tickDone}
 use Rattle.rules.specs.Rules.{rule, step, outcome, after}
 use Rattle.rules.specs.Demand3.{events, Alike, AllAlike}
@@ -117,18 +117,25 @@ module _ (st : State) (rs qs : List Record) (h : Places rs qs) where
 
 module _ (o : Configuration) (rs qs : List Record) (h : Places rs qs) where
   agree-state : (st : State) (c : CarAddress) (m : Request) → Agrees (first st rs qs h) (second st rs qs h) (stateRule o st rs c m) (stateRule o st qs c m)
-  unfolding stateRule
+  unfolding stateRule mapRule
   agree-state Unmatched c m = refuse Unmatched rs qs h 8
   agree-state (Matching a) c (forRecord m) =
       rw (← h .own c, ← places-free rs qs h, ← same-result (o .exempt) rs qs (h .own))
       (agree-changed (Matching a) rs qs h o c (changeRule (o .edition) c m a (freePlaces rs) (firstResult (o .exempt) rs) (mine c rs)) (change-ready (o .edition) c m a (freePlaces rs) (firstResult (o .exempt) rs) (mine c rs)))
   agree-state (Matching a) c (matchReq run x y) = rw (← h .own c) (agree-matched (Matching a) rs qs h o c run x y (matchRule run (mine c rs)))
+  agree-state (Matching a) c (mapReq n) = refuse (Matching a) rs qs h 8
   agree-state (Joining l d k) c (forRecord m) = refuse (Joining l d k) rs qs h 8
   agree-state (Joining l d k) c (matchReq run x y) =
       check-both (Agrees (first (Joining l d k) rs qs h) (second (Joining l d k) rs qs h)) (sameCar c d && sameRun run k) 11
       (yes (confirmed o (Joining l d k) rs c run x y)) (yes (confirmed o (Joining l d k) qs c run x y)) (refuse (Joining l d k) rs qs h 11)
       (λ e. record { moved = here (Joining l d k) rs qs h; gave = refl })
-  agree-state Matched c m = refuse Matched rs qs h 8
+  agree-state (Joining l d k) c (mapReq n) = refuse (Joining l d k) rs qs h 8
+  agree-state (Matched d) c (forRecord m) = refuse (Matched d) rs qs h 8
+  agree-state (Matched d) c (matchReq run x y) = refuse (Matched d) rs qs h 8
+  agree-state (Matched d) c (mapReq n) =
+      check-both (Agrees (first (Matched d) rs qs h) (second (Matched d) rs qs h)) (sameCar c d) 11 _ _ (refuse (Matched d) rs qs h 11)
+      (λ e. check-both (Agrees (first (Matched d) rs qs h) (second (Matched d) rs qs h)) (eqb n (o .carriers)) 24 _ _ (refuse (Matched d) rs qs h 24)
+      (λ k. record { moved = here (Matched d) rs qs h; gave = refl }))
 
   agree-frame : (st : State) (w : Checked Received) → Agrees (first st rs qs h) (second st rs qs h) (frameRule o (first st rs qs h) w) (frameRule o (second st rs qs h) w)
   agree-frame st (no n) = refuse st rs qs h n
@@ -146,7 +153,7 @@ module _ (o : Configuration) (rs qs : List Record) (h : Places rs qs) where
   agree-link Unmatched = refuse Unmatched rs qs h 8
   agree-link (Matching a) = refuse (Matching a) rs qs h 8
   agree-link (Joining l c run) = record { moved = record { places = h; states = refl }; gave = refl }
-  agree-link Matched = refuse Matched rs qs h 8
+  agree-link (Matched d) = refuse (Matched d) rs qs h 8
 
 -- ---- ticks
 
@@ -171,7 +178,7 @@ tick-state t room o b e i j (Matching a) rs qs h =
     rw (← same-none (map (tickRecord b e) rs) (map (tickRecord b e) qs) (k .own))
     (tick-admission t room i j (a - e) (noneHeld (map (tickRecord b e) rs)) (map (tickRecord b e) rs) (map (tickRecord b e) qs) (allFrames o b e rs) (allFrames o b e qs) k (places-frames rs qs h o b e))
 tick-state t room o b e i j (Joining l c run) rs qs h = tick-joining t room i j (leb l e) (l - e) c run rs qs h
-tick-state t room o b e i j Matched rs qs h = record { moved = record { places = h; states = refl }; gave = (refl, refl) }
+tick-state t room o b e i j (Matched c) rs qs h = record { moved = record { places = h; states = refl }; gave = (refl, refl) }
 
 tick-elapsed : (t room : ℕ) (o : Configuration) (b : Bool) (st : State) (rs qs : List Record) → (h : Places rs qs) → (w : Checked ℕ)
     → Follows (tick t room) (first st rs qs h) (second st rs qs h) (andThen w (λ (e : ℕ). yes (tickDone o b e st rs))) (andThen w (λ (e : ℕ). yes (tickDone o b e st qs)))

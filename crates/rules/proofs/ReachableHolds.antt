@@ -27,7 +27,7 @@ use Rattle.ends.specs.Lists.{All}
 use Rattle.ends.specs.Outcomes.{andThen, next}
 use Rattle.rules.specs.Stations.{Shared, Inner, shared, inner, Done}
 use Rattle.rules.specs.Records.{sameCar, sameRun, mine, freePlaces, noneHeld, freed}
-use Rattle.rules.specs.Received.{Request, forRecord, matchReq, Received, received}
+use Rattle.rules.specs.Received.{Request, forRecord, matchReq, mapReq, Received, received}
 use Rattle.rules.specs.Validation.{firstResult, turn, toggledRecord}
 use Rattle.rules.specs.Events.{plugged, isB, ended, pilotDone, linkRule}
 use Rattle.rules.specs.Frames.{Change, changeRule, matchRule, changed, confirmed, stateRule, admitted, frameRule}
@@ -39,6 +39,7 @@ use Rattle.rules.proofs.RecordLaws.{Keeping, turn-keeping, mine-none, n
 use Rattle.rules.proofs.ValidationLaws.{free-busy}
 use Rattle.rules.proofs.Reached.{one-next}
 use Rattle.rules.proofs.Always.{after-all}
+use Rattle.rules.proofs.RuleLaws.{on-map}
 use Rattle.rules.proofs.OneValidates.{one-validates}
 use Rattle.rules.proofs.InvariantKept.{config-same}
 use Rattle.rules.proofs.SpreadLaws.{Wide, step-wide, wide-free, all-ordered}
@@ -63,9 +64,13 @@ unfolding stateRule
 held-state o Unmatched rs c m h = tt
 held-state o (Matching a) rs c (forRecord m) h = held-change o a rs c (changeRule (o .edition) c m a (freePlaces rs) (firstResult (o .exempt) rs) (mine c rs))
 held-state o (Matching a) rs c (matchReq run x y) h = held-match o _ rs c run x y (matchRule run (mine c rs))
+held-state o (Matching a) rs c (mapReq n) h = tt
 held-state o (Joining l d k) rs c (forRecord m) h = tt
 held-state o (Joining l d k) rs c (matchReq run x y) h = on-check Held (sameCar c d && sameRun run k) 11 (yes (confirmed o (Joining l d k) rs c run x y)) (λ e. h)
-held-state o Matched rs c m h = tt
+held-state o (Joining l d k) rs c (mapReq n) h = tt
+held-state o (Matched d) rs c (forRecord m) h = tt
+held-state o (Matched d) rs c (matchReq run x y) h = tt
+held-state o (Matched d) rs c (mapReq n) h = on-map Held o d rs c n h
 
 held-frame : (o : Configuration) (i : Inner) (w : Checked Received) → HeldIn (i .state) (i .records) → OnYes Held (frameRule o i w)
 held-frame o i (no n) h = tt
@@ -87,7 +92,7 @@ unfolding tickDone
 held-tick o b e Unmatched rs h = h
 held-tick o b e (Matching a) rs h = held-admission (a - e) (noneHeld (map (tickRecord b e) rs)) (map (tickRecord b e) rs) (allFrames o b e rs) refl
 held-tick o b e (Joining l c run) rs h = held-joining (leb l e) (l - e) c run rs h
-held-tick o b e Matched rs h = h
+held-tick o b e (Matched c) rs h = h
 
 held-elapsed : (o : Configuration) (b : Bool) (i : Inner) (w : Checked ℕ) → HeldIn (i .state) (i .records) → OnYes Held (andThen w (λ (e : ℕ). yes (tickDone o b e (i .state) (i .records))))
 held-elapsed o b i (no n) h = tt
@@ -98,7 +103,7 @@ held-each : (g : Record → Record) → Keeping g → (st : State) (rs : List Re
 held-each g k Unmatched rs h = none-each g k rs h
 held-each g k (Matching a) rs h = tt
 held-each g k (Joining l c run) rs h = none-each g k rs h
-held-each g k Matched rs h = none-each g k rs h
+held-each g k (Matched c) rs h = none-each g k rs h
 
 held-pilot : (was is : Bool) (w : Turn) (i : Inner) → HeldIn (i .state) (i .records) → Held (pilotDone was is w i)
 unfolding pilotDone
@@ -112,7 +117,7 @@ unfolding linkRule
 held-link Unmatched rs h = tt
 held-link (Matching a) rs h = tt
 held-link (Joining l c run) rs h = h
-held-link Matched rs h = tt
+held-link (Matched c) rs h = tt
 
 held-rule : (o : Shared) (i : Inner) (x : Call) → HeldIn (i .state) (i .records) → OnYes Held (rule o i x)
 unfolding rule
@@ -204,12 +209,12 @@ step-reaches s x h w = record {
   ordered = all-ordered (step s x .records) w;
 }
 
-configured-reachable : (a : StationAddress) (m : ModemAddress) (nid : Nid) (nmk : Nmk) (exempt : Bool) (e : Edition) → Reachable (configured a m nid nmk exempt e)
+configured-reachable : (a : StationAddress) (m : ModemAddress) (nid : Nid) (nmk : Nmk) (exempt : Bool) (e : Edition) (carriers : ℕ) → Reachable (configured a m nid nmk exempt e carriers)
 unfolding configured
-configured-reachable a m nid nmk exempt e =
+configured-reachable a m nid nmk exempt e carriers =
     let rs = replicate recordCount freeRecord in
     let h : noneHeld rs ≡ true = mine-none _ (λ c. mine-free c recordCount) in
-    record { one = λ c. one-record a m nid nmk exempt e [] c; held = h; validating = omega (arith, free-busy rs h); unplugged = λ p. refl; bad = λ g. refl; ordered = all-ordered rs (wide-free recordCount) }
+    record { one = λ c. one-record a m nid nmk exempt e carriers [] c; held = h; validating = omega (arith, free-busy rs h); unplugged = λ p. refl; bad = λ g. refl; ordered = all-ordered rs (wide-free recordCount) }
 
 -- reachable, and what the order of each group's values rests on
 abbrev Reaches : Station → Type 0
@@ -218,9 +223,9 @@ Reaches s = Reachable s × All Wide (s .records)
 reaches-next : (s : Station) (x : Call) → Reaches s → Reaches (step s x)
 reaches-next s x h = let w = step-wide s x (h .1) in (step-reaches s x (h .0) w, w)
 
-configured-reaches : (a : StationAddress) (m : ModemAddress) (nid : Nid) (nmk : Nmk) (exempt : Bool) (e : Edition) → Reaches (configured a m nid nmk exempt e)
+configured-reaches : (a : StationAddress) (m : ModemAddress) (nid : Nid) (nmk : Nmk) (exempt : Bool) (e : Edition) (carriers : ℕ) → Reaches (configured a m nid nmk exempt e carriers)
 unfolding configured
-configured-reaches a m nid nmk exempt e = (configured-reachable a m nid nmk exempt e, wide-free recordCount)
+configured-reaches a m nid nmk exempt e carriers = (configured-reachable a m nid nmk exempt e carriers, wide-free recordCount)
 
-pub reachable : (address : StationAddress) (modem : ModemAddress) (nid : Nid) (nmk : Nmk) (exempt : Bool) (e : Edition) (xs : List Call) → Reachable (after (configured address modem nid nmk exempt e) xs)
-reachable a m nid nmk exempt e xs = after-all Reaches reaches-next (configured a m nid nmk exempt e) xs (configured-reaches a m nid nmk exempt e) .0
+pub reachable : (address : StationAddress) (modem : ModemAddress) (nid : Nid) (nmk : Nmk) (exempt : Bool) (e : Edition) (carriers : ℕ) (xs : List Call) → Reachable (after (configured address modem nid nmk exempt e carriers) xs)
+reachable a m nid nmk exempt e carriers xs = after-all Reaches reaches-next (configured a m nid nmk exempt e carriers) xs (configured-reaches a m nid nmk exempt e carriers) .0

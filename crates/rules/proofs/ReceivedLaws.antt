@@ -1,9 +1,9 @@
--- Laws of what a station receives: the car is the one that the frame names, and a unicast one; PARM.REQ, VALIDATE.REQ and MATCH.REQ are what they read as.
+-- Laws of what a station receives: the car is the one that the frame names, and a unicast one; PARM.REQ, VALIDATE.REQ and MATCH.REQ are what they read as, and a request with a map is none of them.
 use Prim.Native.Nat.{ℕ, zero, suc, _+_, _-_, _<_, _≤_}
 use mathlib.Core.Path.{_≡_, refl, sym, _∙_, ap, subst}
 use mathlib.Core.Bool.{Bool, true, false, cond}
 use mathlib.Core.List.{List, [], _∷_, _++_}
-use mathlib.Core.Option.{some}
+use mathlib.Core.Option.{Option, some}
 use native.Mathlib.Omega.{arith}
 use lib.Dec.{eqb, leb}
 use lib.ListN.{length, getD, take, drop, replicate, length-append, length-take, length-drop, length-replicate}
@@ -18,13 +18,18 @@ use Rattle.messages.proofs.FrameLaws.{accepted, groupsFrom, attenProfileInd-gro
 use Rattle.messages.proofs.LayoutLaws.{to-fits, read-fits}
 use Rattle.messages.proofs.TableLaws.{size-payload}
 use Rattle.messages.proofs.NamedCars.{cars-unicast}
+use Rattle.amplitude.specs.Maps.{MapMessage, ampMapReq, ampMapCnf}
+use Rattle.amplitude.specs.Reading as amplitude
+use Rattle.amplitude.specs.Reading.{summaryOf}
+use Rattle.amplitude.proofs.NamedCars as maps
 use Rattle.rules.specs.declared.Configuration.{Configuration}
 use Rattle.rules.specs.Constants.{leastOutput}
-use Rattle.rules.specs.Received.{validateFirst, validateSecond, Request, forRecord, matchReq, Received, receivedAs, receivedIn, received, isForUs}
+use Rattle.rules.specs.Received.{validateFirst, validateSecond, Request, forRecord, matchReq, mapReq, Received, receivedAs, messageAs, mapIn, received, isForUs}
+use Rattle.ends.specs.Outcomes.{andThen, orElse}
 use Rattle.rules.specs.FromOctets.{CountedValues, IsId, Holds, OctetRequest}
 use Rattle.rules.specs.Frames.{admitted}
-use Rattle.rules.specs.Demand3.{isRead}
-use Rattle.ends.proofs.Logic.{OnYes, on-check}
+use Rattle.rules.specs.Demand3.{eitherCar, isRead}
+use Rattle.ends.proofs.Logic.{OnYes, on-check, on-else}
 use Rattle.rules.proofs.ReadingLaws.{timerIn, OctetMessage, read-octets}
 use Rattle.rules.proofs.RuleLaws.{isAsk, isValidate}
 
@@ -33,55 +38,71 @@ use Rattle.rules.proofs.RuleLaws.{isAsk, isValidate}
 abbrev pub isMatch : Request → Bool
 isMatch (forRecord m) = false
 isMatch (matchReq run a b) = true
+isMatch (mapReq n) = false
 
 abbrev pub asksIn : Request → Bool
 asksIn (forRecord m) = isAsk m
 asksIn (matchReq run a b) = false
+asksIn (mapReq n) = false
 
 abbrev pub validatesIn : Request → Bool
 validatesIn (forRecord m) = isValidate m
 validatesIn (matchReq run a b) = false
+validatesIn (mapReq n) = false
 
--- what was received, and what reading the octets gave
-pub record ReadAs (x : Checked Message) (y : Received) : Type 0 where
-  pub car : carOf x ≡ some (y .car)
+-- what was received, and what reading the octets gave, as one of the eleven messages and as one of amplitude maps
+pub record ReadAs (x : Checked Message) (z : Checked MapMessage) (y : Received) : Type 0 where
+  pub car : eitherCar (carOf x) (amplitude.carOf z) ≡ some (y .car)
   pub unicast : isUnicast (y .car .0) ≡ true
   pub matching : isRead slacMatchReq x ≡ isMatch (y .request)
   pub asking : isRead slacParmReq x ≡ asksIn (y .request)
   pub validating : isRead validateReq x ≡ validatesIn (y .request)
 
--- a car that reading names is a unicast one
+-- what was received of a frame
+abbrev pub FrameAs : Edition → List ℕ → Received → Type 0
+FrameAs e s = ReadAs (readRules e s) (amplitude.readRules s)
+
+-- a car that is named is a unicast one
+abbrev Unicasts : Option CarAddress → Type 0
+Unicasts x = (c : CarAddress) → x ≡ some c → isUnicast (c .0) ≡ true
+
 abbrev NamesUnicast : Checked Message → Type 0
-NamesUnicast x = (c : CarAddress) → carOf x ≡ some c → isUnicast (c .0) ≡ true
+NamesUnicast x = Unicasts (carOf x)
 
-validation-read : (e : Edition) (b : Bool) (t g d f : ℕ) (vs : Values (payload e validateReq g d f)) → NamesUnicast (yes (record { edition = e; kind = validateReq; count = g; dst = d; src = f; values = vs }))
-    → ReadAs (yes (record { edition = e; kind = validateReq; count = g; dst = d; src = f; values = vs })) (record { car = record { 0 = f }; dst = d; src = f; request = forRecord (cond b (validateSecond t) validateFirst) })
+validation-read : (z : Checked MapMessage) (e : Edition) (b : Bool) (t g d f : ℕ) (vs : Values (payload e validateReq g d f)) → NamesUnicast (yes (record { edition = e; kind = validateReq; count = g; dst = d; src = f; values = vs }))
+    → ReadAs (yes (record { edition = e; kind = validateReq; count = g; dst = d; src = f; values = vs })) z (record { car = record { 0 = f }; dst = d; src = f; request = forRecord (cond b (validateSecond t) validateFirst) })
 unfolding isRead
-validation-read e true t g d f vs u = record { car = refl; unicast = u _ refl; matching = refl; asking = refl; validating = refl }
-validation-read e false t g d f vs u = record { car = refl; unicast = u _ refl; matching = refl; asking = refl; validating = refl }
+validation-read z e true t g d f vs u = record { car = refl; unicast = u _ refl; matching = refl; asking = refl; validating = refl }
+validation-read z e false t g d f vs u = record { car = refl; unicast = u _ refl; matching = refl; asking = refl; validating = refl }
 
-read-as-kind : (e : Edition) (k : Kind) (g d f : ℕ) (vs : Values (payload e k g d f)) → NamesUnicast (yes (record { edition = e; kind = k; count = g; dst = d; src = f; values = vs }))
-    → OnYes (ReadAs (yes (record { edition = e; kind = k; count = g; dst = d; src = f; values = vs }))) (receivedAs e k g d f vs)
+read-as-kind : (z : Checked MapMessage) (e : Edition) (k : Kind) (g d f : ℕ) (vs : Values (payload e k g d f)) → NamesUnicast (yes (record { edition = e; kind = k; count = g; dst = d; src = f; values = vs }))
+    → OnYes (ReadAs (yes (record { edition = e; kind = k; count = g; dst = d; src = f; values = vs })) z) (receivedAs e k g d f vs)
 unfolding isRead
-read-as-kind e slacParmReq g d f vs u = record { car = refl; unicast = u _ refl; matching = refl; asking = refl; validating = refl }
-read-as-kind e slacParmCnf g d f vs u = tt
-read-as-kind e startAttenCharInd g d f vs u = record { car = refl; unicast = u _ refl; matching = refl; asking = refl; validating = refl }
-read-as-kind e attenCharInd g d f vs u = tt
-read-as-kind e attenCharRsp g d f vs u = record { car = refl; unicast = u _ refl; matching = refl; asking = refl; validating = refl }
-read-as-kind e mnbcSoundInd g d f vs u = record { car = refl; unicast = u _ refl; matching = refl; asking = refl; validating = refl }
-read-as-kind e validateReq g d f vs u = validation-read e (eqb d broadcast) (vs .0) g d f vs u
-read-as-kind e validateCnf g d f vs u = tt
-read-as-kind e slacMatchReq g d f vs u = record { car = refl; unicast = u _ refl; matching = refl; asking = refl; validating = refl }
-read-as-kind e slacMatchCnf g d f vs u = tt
-read-as-kind e attenProfileInd g d f vs u = record { car = refl; unicast = u _ refl; matching = refl; asking = refl; validating = refl }
+read-as-kind z e slacParmReq g d f vs u = record { car = refl; unicast = u _ refl; matching = refl; asking = refl; validating = refl }
+read-as-kind z e slacParmCnf g d f vs u = tt
+read-as-kind z e startAttenCharInd g d f vs u = record { car = refl; unicast = u _ refl; matching = refl; asking = refl; validating = refl }
+read-as-kind z e attenCharInd g d f vs u = tt
+read-as-kind z e attenCharRsp g d f vs u = record { car = refl; unicast = u _ refl; matching = refl; asking = refl; validating = refl }
+read-as-kind z e mnbcSoundInd g d f vs u = record { car = refl; unicast = u _ refl; matching = refl; asking = refl; validating = refl }
+read-as-kind z e validateReq g d f vs u = validation-read z e (eqb d broadcast) (vs .0) g d f vs u
+read-as-kind z e validateCnf g d f vs u = tt
+read-as-kind z e slacMatchReq g d f vs u = record { car = refl; unicast = u _ refl; matching = refl; asking = refl; validating = refl }
+read-as-kind z e slacMatchCnf g d f vs u = tt
+read-as-kind z e attenProfileInd g d f vs u = record { car = refl; unicast = u _ refl; matching = refl; asking = refl; validating = refl }
 
-read-as-in : (x : Checked Message) → NamesUnicast x → OnYes (ReadAs x) (receivedIn x)
-read-as-in (no n) u = tt
-read-as-in (yes m) u = read-as-kind (m .edition) (m .kind) (m .count) (m .dst) (m .src) (m .values) u
+read-as-map : (n : ℕ) (z : Checked MapMessage) → Unicasts (amplitude.carOf z) → OnYes (ReadAs (no n) z) (mapIn (summaryOf z))
+unfolding isRead
+read-as-map n (no x) u = tt
+read-as-map n (yes (ampMapReq d f vs)) u = record { car = refl; unicast = u _ refl; matching = refl; asking = refl; validating = refl }
+read-as-map n (yes (ampMapCnf d f x)) u = tt
 
-received-read : (e : Edition) (s : List ℕ) → OnYes (ReadAs (readRules e s)) (received e s)
+read-as-in : (x : Checked Message) (z : Checked MapMessage) → NamesUnicast x → Unicasts (amplitude.carOf z) → OnYes (ReadAs x z) (orElse x messageAs (mapIn (summaryOf z)))
+read-as-in (no n) z u v = on-else messageAs (mapIn (summaryOf z)) (ReadAs (no n) z) (no n) tt (read-as-map n z v)
+read-as-in (yes m) z u v = read-as-kind z (m .edition) (m .kind) (m .count) (m .dst) (m .src) (m .values) u
+
+received-read : (e : Edition) (s : List ℕ) → OnYes (FrameAs e s) (received e s)
 unfolding received
-received-read e s = read-as-in (readRules e s) (cars-unicast e s)
+received-read e s = read-as-in (readRules e s) (amplitude.readRules s) (cars-unicast e s) (maps.cars-unicast s)
 
 -- what no state and no record refuses is what was received
 admitted-on : (P : Received → Type 0) (o : Configuration) (room : ℕ) (x : Checked Received) → OnYes P x → OnYes P (admitted o room x)
@@ -89,8 +110,8 @@ unfolding admitted
 admitted-on P o room (no n) h = on-check P (o .good) 16 _ (λ g. on-check P (leb leastOutput room) 15 (no n) (λ k. tt))
 admitted-on P o room (yes y) h = on-check P (o .good) 16 _ (λ g. on-check P (leb leastOutput room) 15 _ (λ k. on-check P (isForUs o y) 7 (yes y) (λ l. h)))
 
-pub read-as : (e : Edition) (o : Configuration) (room : ℕ) (s : List ℕ) → OnYes (ReadAs (readRules e s)) (admitted o room (received e s))
-read-as e o room s = admitted-on (ReadAs (readRules e s)) o room (received e s) (received-read e s)
+pub read-as : (e : Edition) (o : Configuration) (room : ℕ) (s : List ℕ) → OnYes (FrameAs e s) (admitted o room (received e s))
+read-as e o room s = admitted-on (FrameAs e s) o room (received e s) (received-read e s)
 
 -- ---- what stands behind the counted values
 
@@ -137,13 +158,18 @@ module _ (P : ℕ → List ℕ → Type 0) (Q : ℕ → Type 0) (R : List ℕ �
   values-as e slacMatchCnf g d f vs h = tt
   values-as e attenProfileInd g d f vs h = h .0 refl
 
-  values-in : (x : Checked Message) → ((m : Message) → x ≡ yes m → ValuesMessage m) → OnYes OfReceived (receivedIn x)
+  values-in : (x : Checked Message) → ((m : Message) → x ≡ yes m → ValuesMessage m) → OnYes OfReceived (andThen x messageAs)
   values-in (no n) h = tt
   values-in (yes m) h = values-as (m .edition) (m .kind) (m .count) (m .dst) (m .src) (m .values) (h m refl)
 
+  values-map : (z : Checked MapMessage) → OnYes OfReceived (mapIn (summaryOf z))
+  values-map (no n) = tt
+  values-map (yes (ampMapReq d f vs)) = tt
+  values-map (yes (ampMapCnf d f x)) = tt
+
   values-received : (e : Edition) (s : List ℕ) → ((m : Message) → readRules e s ≡ yes m → ValuesMessage m) → OnYes OfReceived (received e s)
   unfolding received
-  values-received e s h = values-in (readRules e s) h
+  values-received e s h = on-else messageAs (mapIn (summaryOf (amplitude.readRules s))) OfReceived (readRules e s) (values-in (readRules e s) h) (values-map (amplitude.readRules s))
 
   pub admitted-values : (e : Edition) (o : Configuration) (room : ℕ) (s : List ℕ) → ((m : Message) → readRules e s ≡ yes m → ValuesMessage m) → OnYes OfReceived (admitted o room (received e s))
   admitted-values e o room s h = admitted-on OfReceived o room (received e s) (values-received e s h)

@@ -9,13 +9,17 @@ use Rattle.messages.specs.declared.CarAddress.{CarAddress}
 use Rattle.messages.specs.declared.Edition.{Edition}
 use Rattle.messages.specs.declared.RunId.{RunId}
 use Rattle.messages.specs.Reading.{Checked, no, yes, check}
+use Rattle.rules.specs.declared.Configuration.{Configuration}
+use Rattle.ends.specs.declared.Indication.the-variants.{Nothing}
 use Rattle.rules.specs.declared.Phase.{Phase}
 use Rattle.rules.specs.declared.Phase.the-variants as phases
 use Rattle.rules.specs.declared.Record.{Record}
-use Rattle.rules.specs.Records.{sameRun, isEmpty}
-use Rattle.rules.specs.Replies.{Reply, confirmation}
+use Rattle.rules.specs.declared.State.the-variants.{Matched}
+use Rattle.rules.specs.Records.{sameCar, sameRun, isEmpty}
+use Rattle.rules.specs.Replies.{Reply, confirmation, mapCnfTo}
+use Rattle.rules.specs.Stations.{Done, done}
 use Rattle.rules.specs.Received.{RecordMessage, parmReq, start, sound, profile, rsp, validateFirst, validateSecond}
-use Rattle.rules.specs.Frames.{Kept, freePlace, Change, putBack, isLater, startRule, soundRule, profileRule, rspRule, firstRule, secondRule, atOwn, atRun, requested, parmRule, changeRule, matchRule}
+use Rattle.rules.specs.Frames.{Kept, freePlace, Change, putBack, isLater, startRule, soundRule, profileRule, rspRule, firstRule, secondRule, atOwn, atRun, requested, parmRule, changeRule, matchRule, mapRule}
 use Rattle.ends.proofs.Logic.{clash, OnYes, on-check}
 use Rattle.rules.proofs.RecordLaws.{Ready, takes}
 
@@ -32,6 +36,11 @@ module _ {A : Type 0} (P : A → Type 0) where
 pub on-back : (P : Record → List Reply → Type 0) (w : Checked Kept) → OnYes (λ (k : Kept). P (k .kept) (k .replies)) w → OnYes (λ (x : Change). P (x .kept) (x .replies)) (putBack w)
 on-back P (no n) h = tt
 on-back P (yes k) h = h
+
+-- what holds of the same state and records holds behind AMP_MAP.REQ
+pub on-map : (P : Done → Type 0) (o : Configuration) (d : CarAddress) (rs : List Record) (c : CarAddress) (n : ℕ) → P (done (Matched d) rs (mapCnfTo o c ∷ []) Nothing) → OnYes P (mapRule o d rs c n)
+unfolding mapRule
+on-map P o d rs c n h = on-check P (sameCar c d) 11 _ (λ a. on-check P (eqb n (o .carriers)) 24 _ (λ b. h))
 
 -- ---- the place is ready
 

@@ -24,7 +24,7 @@ use Rattle.ends.specs.Outcomes.{Outcome, framesOf, andThen, next, outcomeOf}
 use Rattle.rules.specs.Stations.{Shared, Inner, shared, inner, Done}
 use Rattle.rules.specs.Records.{mine, freePlaces, freed}
 use Rattle.rules.specs.Replies.{Reply, framesTo}
-use Rattle.rules.specs.Received.{RecordMessage, parmReq, start, sound, profile, rsp, validateFirst, validateSecond, Request, forRecord, matchReq, Received, received}
+use Rattle.rules.specs.Received.{RecordMessage, parmReq, start, sound, profile, rsp, validateFirst, validateSecond, Request, forRecord, matchReq, mapReq, Received, received}
 use Rattle.rules.specs.Validation.{anyValidates, firstResult}
 use Rattle.rules.specs.Frames.{Kept, Change, putBack, firstRule, secondRule, atOwn, changeRule, changed, stateRule, admitted, frameRule}
 use Rattle.rules.specs.Rules.{rule, step, outcome, after}
@@ -32,7 +32,7 @@ use Rattle.rules.specs.Demand3.{named, isCar, accepted, isRead, isKind, 
 use Rattle.ends.proofs.Logic.{split, clash, or-left, or-right, OnYes}
 use Rattle.rules.proofs.RecordLaws.{none-freed}
 use Rattle.rules.proofs.RuleLaws.{on-own, on-back, isValidate}
-use Rattle.rules.proofs.ReceivedLaws.{validatesIn, ReadAs}
+use Rattle.rules.proofs.ReceivedLaws.{validatesIn, FrameAs}
 use Rattle.rules.proofs.ReplyLaws.{Unicast}
 use Rattle.rules.proofs.ValidationLaws.{none-busy, free-busy, fails-not}
 use Rattle.rules.proofs.Always.{Meets}
@@ -96,11 +96,15 @@ unfolding stateRule anyFailure
 calm-state o Unmatched rs c m v e = refl
 calm-state o (Matching a) rs c (forRecord m) v e = calm-changed o (Matching a) rs c (changeRule (o .edition) c m a (freePlaces rs) (firstResult (o .exempt) rs) (mine c rs)) (change-calm o c (o .exempt) rs e m a (freePlaces rs) (mine c rs) v)
 calm-state o (Matching a) rs c (matchReq run x y) v e = clash true refl (sym v)
+calm-state o (Matching a) rs c (mapReq n) v e = clash true refl (sym v)
 calm-state o (Joining l d k) rs c (forRecord m) v e = refl
 calm-state o (Joining l d k) rs c (matchReq run x y) v e = clash true refl (sym v)
-calm-state o Matched rs c m v e = refl
+calm-state o (Joining l d k) rs c (mapReq n) v e = clash true refl (sym v)
+calm-state o (Matched d) rs c (forRecord m) v e = refl
+calm-state o (Matched d) rs c (matchReq run x y) v e = clash true refl (sym v)
+calm-state o (Matched d) rs c (mapReq n) v e = clash true refl (sym v)
 
-calm-frame : (e : Edition) (o : Configuration) (i : Inner) (s : List ℕ) (w : Checked Received) → OnYes (ReadAs (readRules e s)) w → isRead validateReq (readRules e s) ≡ true → anyValidates (i .records) ≡ false
+calm-frame : (e : Edition) (o : Configuration) (i : Inner) (s : List ℕ) (w : Checked Received) → OnYes (FrameAs e s) w → isRead validateReq (readRules e s) ≡ true → anyValidates (i .records) ≡ false
     → anyFailure (framesOf (outcomeOf (frameRule o i w))) ≡ false
 unfolding anyFailure
 calm-frame e o i s (no n) t k f = refl
@@ -121,7 +125,7 @@ unfolding accepted
 refused-stays i (no n) e = refl
 refused-stays i (yes d) e = clash true refl e
 
-others-frame : (e : Edition) (s : List ℕ) (w : Checked Received) → OnYes (ReadAs (readRules e s)) w → isRead validateReq (readRules e s) ≡ false → OnYes (λ (y : Received). Allows 0 (y .request)) w
+others-frame : (e : Edition) (s : List ℕ) (w : Checked Received) → OnYes (FrameAs e s) w → isRead validateReq (readRules e s) ≡ false → OnYes (λ (y : Received). Allows 0 (y .request)) w
 others-frame e s (no n) t k = tt
 others-frame e s (yes y) t k = λ v. clash (validatesIn (y .request)) v (sym (t .validating) ∙ k)
 

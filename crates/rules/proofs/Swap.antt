@@ -2,6 +2,7 @@
 use Prim.Native.Nat.{ℕ, _+_, _≤_}
 use mathlib.Core.Path.{_≡_, refl, sym, _∙_, ap, subst}
 use mathlib.Core.Bool.{Bool, true, false, not, _&&_, and-false}
+use lib.Dec.{eqb}
 use mathlib.Core.List.{List, map}
 use native.Mathlib.Omega.{arith}
 use lib.ListN.{length}
@@ -10,7 +11,7 @@ use Rattle.messages.specs.declared.CarAddress.{CarAddress}
 use Rattle.messages.specs.declared.Edition.{Edition}
 use Rattle.messages.specs.declared.RunId.{RunId}
 use Rattle.messages.specs.Table.{validateReq, slacMatchReq}
-use Rattle.messages.specs.Reading.{Checked, no, yes, check, readRules}
+use Rattle.messages.specs.Reading.{Checked, no, yes, check}
 use Rattle.messages.proofs.LayoutLaws.{and-left, and-right}
 use Rattle.rules.specs.declared.Configuration.{Configuration}
 use Rattle.rules.specs.declared.Record.{Record}
@@ -22,15 +23,15 @@ use Rattle.rules.specs.Calls.{Call, frame, tick, pilot, terminate, linkU
 use Rattle.ends.specs.Outcomes.{Outcome, andThen, next, outcomeOf}
 use Rattle.rules.specs.Stations.{Inner, inner, Done}
 use Rattle.rules.specs.Records.{sameCar, sameRun, mine, freePlaces, freed}
-use Rattle.rules.specs.Received.{RecordMessage, Request, forRecord, matchReq, Received, received}
+use Rattle.rules.specs.Received.{RecordMessage, Request, forRecord, matchReq, mapReq, Received, received}
 use Rattle.rules.specs.Validation.{firstResult}
-use Rattle.rules.specs.Frames.{Change, changeRule, matchRule, put, changed, confirmed, stateRule, admitted, frameRule}
+use Rattle.rules.specs.Frames.{Change, changeRule, matchRule, put, changed, confirmed, mapRule, stateRule, admitted, frameRule}
 use Rattle.rules.specs.Rules.{rule, sharedStep, step, outcome}
 use Rattle.rules.specs.Demand3.{named, isCar, accepted, isTen, isKind, isAccepted, isFrame, moves}
 use Rattle.ends.proofs.Logic.{split, clash, OnYes}
 use Rattle.rules.proofs.RecordLaws.{same-refl, same-eq, same-swap, Ready, takes, ready-takes, same-put, mine-put-other, length-put, free-put}
 use Rattle.rules.proofs.RuleLaws.{isAsk, isValidate, refusedTen, SameResult, change-ready, change-same}
-use Rattle.rules.proofs.ReceivedLaws.{isMatch, validatesIn, ReadAs}
+use Rattle.rules.proofs.ReceivedLaws.{isMatch, validatesIn, FrameAs}
 use Rattle.rules.proofs.EditionLaws.{read-in}
 use Rattle.rules.proofs.NearFrames.{ten-change}
 use Rattle.rules.proofs.Places.{Places, Moved, Like}
@@ -129,10 +130,17 @@ unfolding accepted
 refused-same o st c m rs result result′ (no n) v = tt
 refused-same o st c m rs result result′ (yes x) v = λ p e. clash (isValidate m && true) (rw p) v
 
-effect : (o : Configuration) (st : State) (c : CarAddress) (m : Request) (rs : List Record) → calm m (outcomeOf (stateRule o st rs c m)) → Effect o st c m rs
+-- a state in which a frame can change a record
+abbrev Changes : State → Type 0
+Changes Unmatched = Unit {0}
+Changes (Matching a) = Unit {0}
+Changes (Joining l c run) = Unit {0}
+Changes (Matched c) = ⊥
+
+effect : (o : Configuration) (st : State) (c : CarAddress) (m : Request) (rs : List Record) → Changes st → calm m (outcomeOf (stateRule o st rs c m)) → Effect o st c m rs
 unfolding stateRule
-effect o Unmatched c m rs h = refuses o Unmatched c m rs 8 (λ qs e. refl)
-effect o (Matching a) c (forRecord m) rs h =
+effect o Unmatched c m rs k h = refuses o Unmatched c m rs 8 (λ qs e. refl)
+effect o (Matching a) c (forRecord m) rs j h =
     let x : ℕ = firstResult (o .exempt) rs in
     let w : Checked Change = changeRule (o .edition) c m a (freePlaces rs) x (mine c rs) in
     let f : isAsk m && refusedTen w ≡ false = rw (sym (ten-change o (Matching a) rs c w) ∙ h .1 .1) (and-false (isAsk m)) in
@@ -144,10 +152,12 @@ effect o (Matching a) c (forRecord m) rs h =
         ← change-same (o .edition) c m a (freePlaces rs) (freePlaces qs) x (firstResult (o .exempt) qs) (mine c rs) f (needed-on w (freePlaces qs) k) (refused-same o (Matching a) c m rs x (firstResult (o .exempt) qs) w (h .1 .0)),
       );
     }
-effect o (Matching a) c (matchReq run x y) rs h = match-effect o a c run x y rs (matchRule run (mine c rs)) refl (h .0)
-effect o (Joining l d k) c (forRecord m) rs h = refuses o (Joining l d k) c (forRecord m) rs 8 (λ qs e. refl)
-effect o (Joining l d k) c (matchReq run x y) rs h = again-effect o l d k c run x y rs (sameCar c d && sameRun run k) refl (h .0)
-effect o Matched c m rs h = refuses o Matched c m rs 8 (λ qs e. refl)
+effect o (Matching a) c (matchReq run x y) rs j h = match-effect o a c run x y rs (matchRule run (mine c rs)) refl (h .0)
+effect o (Matching a) c (mapReq n) rs j h = refuses o (Matching a) c (mapReq n) rs 8 (λ qs e. refl)
+effect o (Joining l d k) c (forRecord m) rs j h = refuses o (Joining l d k) c (forRecord m) rs 8 (λ qs e. refl)
+effect o (Joining l d k) c (matchReq run x y) rs j h = again-effect o l d k c run x y rs (sameCar c d && sameRun run k) refl (h .0)
+effect o (Joining l d k) c (mapReq n) rs j h = refuses o (Joining l d k) c (mapReq n) rs 8 (λ qs e. refl)
+effect o (Matched d) c m rs j h = absurd j
 
 -- ---- two frames
 
@@ -168,19 +178,19 @@ outcome-doing : (o : Configuration) (st : State) (c : CarAddress) (w : Checked C
 outcome-doing o st c (no n) rs qs = refl
 outcome-doing o st c (yes x) rs qs = refl
 
-swap-state : (o : Configuration) (st : State) (rs : List Record) (c d : CarAddress) (m l : Request) → sameCar c d ≡ false
+swap-changes : (o : Configuration) (st : State) (rs : List Record) (c d : CarAddress) (m l : Request) → Changes st → sameCar c d ≡ false
     → calm m (outcomeOf (stateRule o st rs c m)) → calm l (outcomeOf (at o d l (next (record { state = st; records = rs }) (stateRule o st rs c m))))
     → Crossed (record { state = st; records = rs }) (stateRule o st rs c m) (at o d l (next (record { state = st; records = rs }) (stateRule o st rs c m)))
     (stateRule o st rs d l) (at o c m (next (record { state = st; records = rs }) (stateRule o st rs d l)))
-swap-state o st rs c d m l f h₁ h₂ =
+swap-changes o st rs c d m l k f h₁ h₂ =
     let i : Inner = record { state = st; records = rs } in
-    let E : Effect o st c m rs = effect o st c m rs h₁ in
+    let E : Effect o st c m rs = effect o st c m rs k h₁ in
     let w : Checked Change = E .change in
     let a : needed w ≤ freePlaces rs = ready-needed c w rs (E .ready) in
     let e₁ : stateRule o st rs c m ≡ doing o st c w rs = E .same rs refl a in
     let n₁ : next i (stateRule o st rs c m) ≡ record { state = st; records = then c w rs } = ap (next i) e₁ ∙ next-doing o st c w rs in
     let h₃ : calm l (outcomeOf (stateRule o st (then c w rs) d l)) = subst (λ (q : Inner). calm l (outcomeOf (at o d l q))) n₁ h₂ in
-    let D : Effect o st d l (then c w rs) = effect o st d l (then c w rs) h₃ in
+    let D : Effect o st d l (then c w rs) = effect o st d l (then c w rs) k h₃ in
     let v : Checked Change = D .change in
     let b : needed v ≤ freePlaces (then c w rs) = ready-needed d v (then c w rs) (D .ready) in
     let p : freePlaces (then c w rs) + needed w ≡ freePlaces rs = then-free c w rs a in
@@ -198,6 +208,34 @@ swap-state o st rs c d m l f h₁ h₂ =
           (record { places = then-both c d w v rs f (E .ready) (D .ready); states = refl });
     }
 
+-- in Matched no frame changes anything
+pub matched-stays : (o : Configuration) (b : CarAddress) (rs : List Record) (c : CarAddress) (m : Request) → next (record { state = Matched b; records = rs }) (stateRule o (Matched b) rs c m) ≡ record { state = Matched b; records = rs }
+unfolding stateRule mapRule
+matched-stays o b rs c (forRecord m) = refl
+matched-stays o b rs c (matchReq run x y) = refl
+matched-stays o b rs c (mapReq n) = split (sameCar c b) (λ e. rw e (split (eqb n (o .carriers)) (λ k. rw k) (λ k. rw k))) (λ e. rw e)
+
+swap-matched : (o : Configuration) (b : CarAddress) (rs : List Record) (c d : CarAddress) (m l : Request)
+    → Crossed (record { state = Matched b; records = rs }) (stateRule o (Matched b) rs c m) (at o d l (next (record { state = Matched b; records = rs }) (stateRule o (Matched b) rs c m)))
+    (stateRule o (Matched b) rs d l) (at o c m (next (record { state = Matched b; records = rs }) (stateRule o (Matched b) rs d l)))
+swap-matched o b rs c d m l =
+    let i : Inner = record { state = Matched b; records = rs } in
+    let p : next i (at o c m i) ≡ i = matched-stays o b rs c m in
+    let q : next i (at o d l i) ≡ i = matched-stays o b rs d l in
+    let x : next (next i (at o c m i)) (at o d l i) ≡ i = ap (λ (k : Inner). next k (at o d l i)) p ∙ q in
+    let y : next (next i (at o d l i)) (at o c m i) ≡ i = ap (λ (k : Inner). next k (at o c m i)) q ∙ p in
+    let here : Moved i i = record { places = record { own = λ c. refl; sizes = refl }; states = refl } in
+    rw (p, q) (record { first = refl; second = refl; moved = subst (λ (k : Inner). Moved k (next (next i (at o d l i)) (at o c m i))) (sym x) (subst (Moved i) (sym y) here) })
+
+swap-state : (o : Configuration) (st : State) (rs : List Record) (c d : CarAddress) (m l : Request) → sameCar c d ≡ false
+    → calm m (outcomeOf (stateRule o st rs c m)) → calm l (outcomeOf (at o d l (next (record { state = st; records = rs }) (stateRule o st rs c m))))
+    → Crossed (record { state = st; records = rs }) (stateRule o st rs c m) (at o d l (next (record { state = st; records = rs }) (stateRule o st rs c m)))
+    (stateRule o st rs d l) (at o c m (next (record { state = st; records = rs }) (stateRule o st rs d l)))
+swap-state o Unmatched rs c d m l f h₁ h₂ = swap-changes o Unmatched rs c d m l tt f h₁ h₂
+swap-state o (Matching a) rs c d m l f h₁ h₂ = swap-changes o (Matching a) rs c d m l tt f h₁ h₂
+swap-state o (Joining t b k) rs c d m l f h₁ h₂ = swap-changes o (Joining t b k) rs c d m l tt f h₁ h₂
+swap-state o (Matched b) rs c d m l f h₁ h₂ = swap-matched o b rs c d m l
+
 -- two calls that do not name the same car
 abbrev pub Apart : Edition → Call → Call → Type 0
 Apart e x y = (c : CarAddress) → isCar c (named e x) ≡ true → isCar c (named e y) ≡ false
@@ -210,7 +248,7 @@ swap-frame o i (yes y) (no n) f h g = record { first = refl; second = refl; move
 swap-frame o i (yes y) (yes z) f h g = swap-state o (i .state) (i .records) (y .car) (z .car) (y .request) (z .request) f h g
 
 -- the words of the demand, said of what was received
-apart-received : (e : Edition) (s s′ : List ℕ) (room room′ : ℕ) → Apart e (frame s room) (frame s′ room′) → (w v : Checked Received) → OnYes (ReadAs (readRules e s)) w → OnYes (ReadAs (readRules e s′)) v
+apart-received : (e : Edition) (s s′ : List ℕ) (room room′ : ℕ) → Apart e (frame s room) (frame s′ room′) → (w v : Checked Received) → OnYes (FrameAs e s) w → OnYes (FrameAs e s′) v
     → OnYes (λ (y : Received). OnYes (λ (z : Received). sameCar (y .car) (z .car) ≡ false) v) w
 unfolding named isCar
 apart-received e s s′ room room′ f (no n) v t t′ = tt
@@ -219,7 +257,7 @@ apart-received e s s′ room room′ f (yes y) (yes z) t t′ =
     let g : isCar (y .car) (named e (frame s′ room′)) ≡ false = f (y .car) (rw (t .car) (same-refl (y .car))) in
     rw (t′ .car) at g
 
-calm-received : (e : Edition) (s : List ℕ) (room : ℕ) (u : Outcome) (w : Checked Received) → OnYes (ReadAs (readRules e s)) w → moves e (record { call = frame s room; gave = u }) ≡ true → OnYes (λ (y : Received). calm (y .request) u) w
+calm-received : (e : Edition) (s : List ℕ) (room : ℕ) (u : Outcome) (w : Checked Received) → OnYes (FrameAs e s) w → moves e (record { call = frame s room; gave = u }) ≡ true → OnYes (λ (y : Received). calm (y .request) u) w
 unfolding moves isFrame isAccepted isKind
 calm-received e s room u (no n) t h = tt
 calm-received e s room u (yes y) t h =

@@ -15,6 +15,8 @@ use Rattle.messages.specs.Answers.{numberOf}
 use Rattle.rules.specs.declared.Configured.{Configured}
 use Rattle.rules.specs.declared.HeardAnswer.{HeardAnswer}
 use Rattle.rules.specs.declared.HeardAnswer.the-variants as heardAnswer
+use Rattle.rules.specs.declared.Inspection.{Inspection}
+use Rattle.rules.specs.declared.Inspection.the-variants as inspection
 use Rattle.rules.specs.declared.Queried.{Queried}
 use Rattle.rules.specs.declared.Spread.{Spread}
 use Rattle.rules.specs.declared.Station.{Station}
@@ -22,7 +24,7 @@ use Rattle.rules.specs.declared.Stepped.{Stepped}
 use Rattle.rules.specs.Calls.{Call}
 use Rattle.ends.specs.Answers.{answerOf, summary}
 use Rattle.ends.specs.Outcomes.{framesOf, joined, andThen}
-use Rattle.rules.specs.Rules.{configured, configuring, step, outcome, Told}
+use Rattle.rules.specs.Rules.{configured, configuring, step, outcome, Told, Inspected}
 use Rattle.rules.specs.Invariant.{Invariant}
 
 -- what the service query's answer says of the sounds heard
@@ -48,6 +50,11 @@ pub record Tells (rule : Checked Told) (q : Queried) : Type 0 where
   pub heard : heardOf (q .heard) ≡ soundsIn rule
   pub spread : q .spread ≡ spreadIn rule
 
+-- what the inspection's answer says
+abbrev pub inspectedOf : Inspection → Checked Inspected
+inspectedOf (inspection.Refused x) = no (numberOf x)
+inspectedOf (inspection.At k c) = yes (record { state = k; car = c })
+
 -- the whole promise of a call: r, and the output from entry to exit
 pub record Answers (s : Station) (x : Call) (entry exit : List ℕ) (r : Stepped) : Type 0 where
   pub station : r .station ≡ step s x
@@ -56,7 +63,7 @@ pub record Answers (s : Station) (x : Call) (entry exit : List ℕ) (r : Stepped
   pub kept : Invariant (r .station)
 
 -- the whole promise of configuring
-pub record Configures (address : StationAddress) (modem : ModemAddress) (nid : Nid) (nmk : Nmk) (exempt : Bool) (edition : Edition) (r : Configured) : Type 0 where
-  pub station : r .station ≡ configured address modem nid nmk exempt edition
-  pub answer : answerOf (r .answer) ≡ summary (configuring address modem nid)
+pub record Configures (address : StationAddress) (modem : ModemAddress) (nid : Nid) (nmk : Nmk) (exempt : Bool) (edition : Edition) (carriers : ℕ) (r : Configured) : Type 0 where
+  pub station : r .station ≡ configured address modem nid nmk exempt edition carriers
+  pub answer : answerOf (r .answer) ≡ summary (configuring address modem nid carriers)
   pub kept : Invariant (r .station)

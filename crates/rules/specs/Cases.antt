@@ -1,4 +1,4 @@
--- The proved table of the bench cases P1 to P12, of validation's V1 to V10, of requests with an empty run and of the SAE edition's S1 to S9: octets, readings and states, and what must come out.
+-- The proved table of the bench cases P1 to P12, of validation's V1 to V10, of requests with an empty run, of the SAE edition's S1 to S9 and of amplitude maps' M6 (`amplitude` has the other M cases): octets, readings and states, and what must come out.
 use Prim.Native.Nat.{ℕ, zero, suc, _+_, _*_, _-_}
 use mathlib.Core.Path.{_≡_}
 use mathlib.Core.Bool.{Bool, true, false}
@@ -8,19 +8,19 @@ use Rattle.messages.specs.declared.Edition.{Edition}
 use Rattle.messages.specs.declared.Edition.the-variants.{Iso, Sae}
 use Rattle.messages.specs.Table.{Message, slacParmReq, broadcast, groupCount}
 use Rattle.messages.specs.Reading.{Checked, no, yes, readRules}
-use Rattle.ends.specs.declared.Indication.the-variants.{Nothing, NoLink}
+use Rattle.ends.specs.declared.Indication.the-variants.{Nothing, NoLink, LinkEstablished}
 use Rattle.rules.specs.declared.Phase.{Phase}
 use Rattle.rules.specs.declared.Phase.the-variants.{Asked, Sounding, Reported, Awaiting, Ready, Counting, Success}
 use Rattle.rules.specs.declared.Pilot.{Pilot}
 use Rattle.rules.specs.declared.Pilot.the-variants.{A, B, C, D}
 use Rattle.rules.specs.declared.Record.{Record}
 use Rattle.rules.specs.declared.State.{State}
-use Rattle.rules.specs.declared.State.the-variants.{Unmatched, Matching, Joining}
+use Rattle.rules.specs.declared.State.the-variants.{Unmatched, Matching, Joining, Matched}
 use Rattle.rules.specs.declared.Station.{Station}
 use Rattle.rules.specs.Constants.{recordCount, leastOutput}
 use Rattle.ends.specs.FirstFrames.{request, p1, p2}
 use Rattle.ends.specs.Lists.{only}
-use Rattle.rules.specs.Calls.{Call, frame, tick, pilot}
+use Rattle.rules.specs.Calls.{Call, frame, tick, pilot, linkUp}
 use Rattle.ends.specs.Outcomes.{Outcome}
 use Rattle.rules.specs.Records.{isHeld, noSpread}
 use Rattle.rules.specs.Rules.{freeRecord, step, outcome, after}
@@ -61,7 +61,7 @@ pub record Row : Type 0 where
 -- a station 02:00:00:00:00:AA with the modem 02:00:00:00:00:BB, in an edition, by whether validation is not required, and records of which the first are given
 abbrev stationThat : Edition → Bool → State → Pilot → ℕ → List Record → Station
 stationThat e exempt st p t rs = record {
-  config = record { good = true; address = record { 0 = 0x0200000000AA }; modem = record { 0 = 0x0200000000BB }; nid = record { 0 = 5 }; nmk = record { 0 = 1; 1 = 2 }; exempt = exempt; edition = e };
+  config = record { good = true; address = record { 0 = 0x0200000000AA }; modem = record { 0 = 0x0200000000BB }; nid = record { 0 = 5 }; nmk = record { 0 = 1; 1 = 2 }; exempt = exempt; edition = e; carriers = 6 };
   state = st;
   pilot = p;
   clock = t;
@@ -180,6 +180,17 @@ saeSound count =
     0xFF ∷ 0xFF ∷ 0xFF ∷ 0xFF ∷ 0xFF ∷ 0xFF ∷ 0x02 ∷ 0x00 ∷ 0x00 ∷ 0x00 ∷ 0x00 ∷ 0x01 ∷ 0x88 ∷ 0xE1 ∷ 0x01 ∷ 0x76 ∷ 0x60 ∷ 0x00 ∷ 0x00
     ∷ 0x00 ∷ 0x00 ∷ replicate 17 0x5A ++ (count ∷ 0x01 ∷ 0x02 ∷ 0x03 ∷ 0x04 ∷ 0x05 ∷ 0x06 ∷ 0x07 ∷ 0x08 ∷ replicate 24 0x00)
 
+-- AMP_MAP.REQ of the car 02:00:00:00:00:n, five or six carriers as AMLEN says, and AMP_MAP.CNF for success to the car of P1, in 60 octets
+abbrev mapReqOf : ℕ → ℕ → List ℕ
+mapReqOf n carriers = toUs n 0x1C ++ (carriers ∷ 0x00 ∷ 0xE0 ∷ 0x0E ∷ 0x00 ∷ [])
+
+abbrev mapCnf : List ℕ
+mapCnf = fromUs 1 0x1D ++ replicate 41 0x00
+
+-- AMP_MAP.CNF of the car of P1 to us
+abbrev mapCnfToUs : List ℕ
+mapCnfToUs = toUs 1 0x1D ++ (0x00 ∷ [])
+
 -- ---- the table
 
 -- accepted, with these frames and no indication
@@ -194,11 +205,15 @@ p1Read = yes (record { edition = Iso; kind = slacParmReq; count = 0; dst = broad
 abbrev heard : Phase → Record
 heard p = held 1 p 0 10 100
 
--- joined with the car of P1
+-- matched with the car of P1
+abbrev matched : State
+matched = Matched (record { 0 = 0x020000000001 })
+
+-- joined with it
 abbrev joining : State
 joining = Joining 12000 (record { 0 = 0x020000000001 }) (record { 0 = 0x0102030405060708 })
 
--- P1 to P12, V1 to V10, empty runs, S1 to S9
+-- P1 to P12, V1 to V10, empty runs, S1 to S9, M6
 unfoldable pub table : List Row
 table =
     -- P1, P3 to P6: the request whole, and cut to or extended to a length
@@ -361,6 +376,20 @@ table =
     ∷ record {
       asked = running (station (Matching 50000) B 0 (held 1 (Asked 400) 0 0 0 ∷ [])) (frame (saeStart 0x08 0x02) leastOutput ∷ []);
       expected = runs (no 6 ∷ []) (Matching 50000) 0 (held 1 (Asked 400) 0 0 0 ∷ []);
+    }
+    -- M6: matched car, n ours: CNF 00, also with the pilot at C; another car: 11; other n: 24; a CNF: 17
+    ∷ record {
+      asked = running (station joining B 0 []) (linkUp ∷ frame (mapReqOf 1 6) leastOutput ∷ pilot C 0 ∷ frame (mapReqOf 1 6) leastOutput ∷ frame (mapReqOf 2 6) leastOutput ∷ frame (mapReqOf 1 5) leastOutput ∷ frame mapCnfToUs leastOutput ∷ []);
+      expected = runs (yes (record { frames = []; indication = LinkEstablished }) ∷ sends (mapCnf ∷ []) ∷ sends [] ∷ sends (mapCnf ∷ []) ∷ no 11 ∷ no 24 ∷ no 17 ∷ []) matched 0 [];
+    }
+    -- in Matching: 8; in Joining too, and after a pilot loss
+    ∷ record {
+      asked = running (station (Matching 50000) B 0 (heard (Awaiting 10000) ∷ [])) (frame (mapReqOf 1 6) leastOutput ∷ frame matchReq leastOutput ∷ frame (mapReqOf 1 6) leastOutput ∷ []);
+      expected = runs (no 8 ∷ sends (matchCnf ∷ []) ∷ no 8 ∷ []) joining 0 [];
+    }
+    ∷ record {
+      asked = running (station matched C 0 []) (pilot A 0 ∷ frame (mapReqOf 1 6) leastOutput ∷ []);
+      expected = runs (sends [] ∷ no 8 ∷ []) Unmatched 0 [];
     }
     ∷ []
 

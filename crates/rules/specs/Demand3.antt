@@ -11,6 +11,7 @@ use Rattle.octets.specs.Octets.{value}
 use Rattle.messages.specs.Layout.{size}
 use Rattle.messages.specs.Table.{Kind, slacParmReq, validateReq, slacMatchReq, typeOf, head, Message}
 use Rattle.messages.specs.Reading.{Checked, no, yes, readRules, carOf}
+use Rattle.amplitude.specs.Reading as amplitude
 use Rattle.rules.specs.declared.Station.{Station}
 use Rattle.ends.specs.Lists.{only, All, Permuted}
 use Rattle.rules.specs.Calls.{Call, frame, tick, pilot, terminate, linkUp}
@@ -47,10 +48,15 @@ unfoldable pub isRead : Kind → Checked Message → Bool
 isRead k (no n) = false
 isRead k (yes m) = eqb (typeOf k) (typeOf (m .kind))
 
+-- the one of two cars that there is
+abbrev pub eitherCar : Option CarAddress → Option CarAddress → Option CarAddress
+eitherCar none y = y
+eitherCar (some c) y = some c
+
 module _ (e : Edition) where
-  -- the car that "octets name": frame calls alone name one, and only if they can be read in the station's edition
+  -- the car that "octets name": frame calls alone name one, and only if they can be read in the station's edition, as one of the eleven messages or of amplitude maps
   unfoldable pub named : Call → Option CarAddress
-  named (frame s room) = carOf (readRules e s)
+  named (frame s room) = eitherCar (carOf (readRules e s)) (amplitude.carOf (amplitude.readRules s))
   named (tick t room) = none
   named (pilot p t) = none
   named terminate = none

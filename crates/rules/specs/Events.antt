@@ -29,7 +29,7 @@ unfoldable pub lost : State → Indication
 lost Unmatched = Nothing
 lost (Matching a) = NoLink
 lost (Joining l c run) = NoLink
-lost Matched = Nothing
+lost (Matched c) = Nothing
 
 -- "Unmatched, records free", with the indication
 abbrev pub ended : Inner → Done
@@ -51,9 +51,9 @@ isB D = false
 isB E = false
 isB F = false
 
--- link up: "in Joining, Matched and link established; else 8"
+-- link up: "in Joining, Matched and link established; else 8"; "Matched keeps the car of Joining"
 unfoldable pub linkRule : State → List Record → Checked Done
 linkRule Unmatched rs = no 8
 linkRule (Matching a) rs = no 8
-linkRule (Joining l c run) rs = yes (done Matched rs [] LinkEstablished)
-linkRule Matched rs = no 8
+linkRule (Joining l c run) rs = yes (done (Matched c) rs [] LinkEstablished)
+linkRule (Matched c) rs = no 8

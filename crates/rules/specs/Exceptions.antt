@@ -22,7 +22,7 @@ use Rattle.rules.specs.Demand3.{without, accepted, anyFailure, ends, rep
 
 -- a well configured station
 abbrev station : Station
-station = configured (record { 0 = 0x0200000000AA }) (record { 0 = 0x0200000000BB }) (record { 0 = 5 }) (record { 0 = 1; 1 = 2 }) false Iso
+station = configured (record { 0 = 0x0200000000AA }) (record { 0 = 0x0200000000BB }) (record { 0 = 5 }) (record { 0 = 1; 1 = 2 }) false Iso 1
 
 -- some cars
 abbrev car : ℕ → CarAddress

@@ -20,8 +20,8 @@ use Rattle.rules.specs.Constants.{soundingTime, soundsPerTry, pairOf, aw
 use Rattle.ends.specs.Outcomes.{andThen}
 use Rattle.rules.specs.Records.{sameCar, sameRun, isEmpty, mine, freePlaces, owned, freed, update, insert, fresh, inPhase, reported, withHeard, fitsGroups, groupsKept, counted}
 use Rattle.rules.specs.Sounds.{isIn, marked}
-use Rattle.rules.specs.Replies.{Reply, parmCnf, matchCnf, confirmation, reportOf, framesTo}
-use Rattle.rules.specs.Received.{RecordMessage, parmReq, start, sound, profile, rsp, validateFirst, validateSecond, Request, forRecord, matchReq, Received, isForUs}
+use Rattle.rules.specs.Replies.{Reply, parmCnf, matchCnf, confirmation, reportOf, framesTo, mapCnfTo}
+use Rattle.rules.specs.Received.{RecordMessage, parmReq, start, sound, profile, rsp, validateFirst, validateSecond, Request, forRecord, matchReq, mapReq, Received, isForUs}
 use Rattle.rules.specs.Validation.{firstResult}
 use Rattle.rules.specs.Stations.{Inner, Done, done}
 
@@ -190,7 +190,14 @@ changed o st rs c x = done st (put c (x .place) (x .kept) rs) (framesTo o c (x .
 abbrev pub confirmed : Configuration → State → List Record → CarAddress → RunId → List ℕ → List ℕ → Done
 confirmed o st rs c run a b = done st rs (framesTo o c (matchCnf run a b ∷ [])) Nothing
 
--- "Matching takes all; Joining takes MATCH.REQ only; else 8"
+-- AMP_MAP.REQ of car c with n carriers, where the car d is matched: "11 (another car than the matched one), 24 (n is not our carriers). Accepted: CNF 00 sent, nothing changes."
+unfoldable pub mapRule : Configuration → CarAddress → List Record → CarAddress → ℕ → Checked Done
+mapRule o d rs c n =
+    check (sameCar c d) 11
+    (check (eqb n (o .carriers)) 24
+    (yes (done (Matched d) rs (mapCnfTo o c ∷ []) Nothing)))
+
+-- "Matching takes all; Joining takes MATCH.REQ only", and neither AMP_MAP.REQ; "Matched takes AMP_MAP.REQ alone"; else 8
 unfoldable pub stateRule : Configuration → State → List Record → CarAddress → Request → Checked Done
 stateRule o Unmatched rs c m = no 8
 stateRule o (Matching t) rs c (forRecord m) =
@@ -199,9 +206,13 @@ stateRule o (Matching t) rs c (forRecord m) =
 stateRule o (Matching t) rs c (matchReq run a b) =
     andThen (matchRule run (mine c rs))
     (λ (x : Unit {0}). yes (confirmed o (Joining joiningTime c run) (map freed rs) c run a b))
+stateRule o (Matching t) rs c (mapReq n) = no 8
 stateRule o (Joining l d k) rs c (forRecord m) = no 8
 stateRule o (Joining l d k) rs c (matchReq run a b) = check (sameCar c d && sameRun run k) 11 (yes (confirmed o (Joining l d k) rs c run a b))
-stateRule o Matched rs c m = no 8
+stateRule o (Joining l d k) rs c (mapReq n) = no 8
+stateRule o (Matched d) rs c (forRecord m) = no 8
+stateRule o (Matched d) rs c (matchReq run a b) = no 8
+stateRule o (Matched d) rs c (mapReq n) = mapRule o d rs c n
 
 -- 16, 15, reading, 17, 7: what no state and no record decides
 unfoldable pub admitted : Configuration → ℕ → Checked Received → Checked Received
@@ -210,6 +221,6 @@ admitted o room x =
     (check (leb leastOutput room) 15
     (andThen x (λ (y : Received). check (isForUs o y) 7 (yes y))))
 
--- then, by the state: 8, 21, then 9 and 10, or 11, 12, then 13, 22 or 23
+-- then, by the state: 8, 21, then 9 and 10, or 11, 12, then 13, 22 or 23; or 8, 11, 24
 abbrev pub frameRule : Configuration → Inner → Checked Received → Checked Done
 frameRule o i x = andThen x (λ (y : Received). stateRule o (i .state) (i .records) (y .car) (y .request))

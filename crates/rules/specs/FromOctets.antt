@@ -8,7 +8,7 @@ use Rattle.octets.specs.Octets.{Octets}
 use Rattle.messages.specs.declared.Edition.{Edition}
 use Rattle.messages.specs.Layout.{zeros}
 use Rattle.messages.specs.Table.{idOctets, anyId, isCount}
-use Rattle.rules.specs.Received.{parmReq, start, sound, profile, rsp, validateFirst, validateSecond, Request, forRecord, matchReq}
+use Rattle.rules.specs.Received.{parmReq, start, sound, profile, rsp, validateFirst, validateSecond, Request, forRecord, matchReq, mapReq}
 
 -- a group count that is right, with values that are octets; those past the count are zero
 pub record CountedValues (e : Edition) (g : ℕ) (vs : List ℕ) : Type 0 where
@@ -32,6 +32,7 @@ module _ (P : ℕ → List ℕ → Type 0) (Q : ℕ → Type 0) (R : List ℕ �
   Holds (forRecord validateFirst) = Unit {0}
   Holds (forRecord (validateSecond timer)) = Q timer
   Holds (matchReq run a b) = R a b
+  Holds (mapReq n) = Unit {0}
 
 -- a request that octets can ask for
 abbrev pub OctetRequest : Edition → Request → Type 0

@@ -19,7 +19,7 @@ abbrev pub HeldIn : State → List Record → Type 0
 HeldIn Unmatched rs = noneHeld rs ≡ true
 HeldIn (Matching a) rs = Unit {0}
 HeldIn (Joining l c run) rs = noneHeld rs ≡ true
-HeldIn Matched rs = noneHeld rs ≡ true
+HeldIn (Matched c) rs = noneHeld rs ≡ true
 
 -- where a profile is counted, the least value of each group is at most its greatest
 abbrev pub Ordered : Record → Type 0

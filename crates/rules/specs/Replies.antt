@@ -1,4 +1,4 @@
--- Replies: what the station sends to a car, without the destination, and a report's values.
+-- Replies: what the station sends to a car, without the destination, a report's values, and AMP_MAP.CNF.
 use Prim.Native.Nat.{ℕ, _+_, _/_}
 use mathlib.Core.Bool.{Bool, true, false}
 use mathlib.Core.List.{List, map}
@@ -7,6 +7,9 @@ use Rattle.messages.specs.declared.RunId.{RunId}
 use Rattle.messages.specs.Table.{Message, slacParmCnf, attenCharInd, validateCnf, slacMatchCnf}
 use Rattle.messages.specs.Reading.{noId}
 use Rattle.messages.specs.Writing as writing
+use Rattle.amplitude.specs.Maps.{ampMapCnf}
+use Rattle.amplitude.specs.Writing as amplitude
+use Rattle.amplitude.specs.Answers.{resultOf}
 use Rattle.rules.specs.declared.Configuration.{Configuration}
 use Rattle.rules.specs.declared.Record.{Record}
 use Rattle.rules.specs.Constants.{pairOf}
@@ -59,3 +62,7 @@ frameTo o c t = writing.frame (messageTo o c t)
 -- the octets of each of some replies to car c
 abbrev pub framesTo : Configuration → CarAddress → List Reply → List (List ℕ)
 framesTo o c ts = map (frameTo o c) ts
+
+-- AMP_MAP.CNF to car c, "CNF 00"
+unfoldable pub mapCnfTo : Configuration → CarAddress → List ℕ
+mapCnfTo o c = amplitude.frame (ampMapCnf (c .0) (o .address .0) (resultOf true))

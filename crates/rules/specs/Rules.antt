@@ -13,11 +13,14 @@ use Rattle.messages.specs.declared.Nmk.{Nmk}
 use Rattle.messages.specs.declared.StationAddress.{StationAddress}
 use Rattle.messages.specs.Table.{isUnicast}
 use Rattle.messages.specs.Reading.{Checked, no, yes, check}
+use Rattle.amplitude.specs.Maps.{isCarriers}
 use Rattle.ends.specs.declared.Indication.the-variants.{Nothing}
+use Rattle.rules.specs.declared.Configuration.{Configuration}
 use Rattle.rules.specs.declared.Pilot.{Pilot}
 use Rattle.rules.specs.declared.Pilot.the-variants.{A}
 use Rattle.rules.specs.declared.Record.{Record}
-use Rattle.rules.specs.declared.State.the-variants.{Unmatched}
+use Rattle.rules.specs.declared.State.{State}
+use Rattle.rules.specs.declared.State.the-variants.{Unmatched, Matching, Joining, Matched}
 use Rattle.rules.specs.declared.Spread.{Spread}
 use Rattle.rules.specs.declared.Station.{Station}
 use Rattle.rules.specs.Constants.{recordCount}
@@ -30,21 +33,26 @@ use Rattle.rules.specs.Events.{plugged, isB, ended, pilotDone, linkRule}
 use Rattle.rules.specs.Validation.{turn}
 use Rattle.rules.specs.Frames.{atOwn, admitted, frameRule}
 use Rattle.rules.specs.Ticks.{tickElapsed, tickDone}
+use Rattle.rules.specs.Numbers.{stateNumber}
 
 -- ---- configuring
 
--- "our address and the modem's unicast and different, NID below 2^54"
-abbrev pub isGood : StationAddress → ModemAddress → Nid → Bool
-isGood a m nid = isUnicast (a .0) && isUnicast (m .0) && not (eqb (a .0) (m .0)) && ltb (nid .0) (2 ^ 54)
+-- "our address and the modem's unicast and different, NID below 2^54": what every reply rests on
+abbrev pub mayReply : StationAddress → ModemAddress → Nid → Bool
+mayReply a m nid = isUnicast (a .0) && isUnicast (m .0) && not (eqb (a .0) (m .0)) && ltb (nid .0) (2 ^ 54)
+
+-- and "our carriers, from 1 to 1,155"
+abbrev pub isGood : StationAddress → ModemAddress → Nid → ℕ → Bool
+isGood a m nid carriers = mayReply a m nid && isCarriers carriers
 
 -- a record that no car has held
 unfoldable pub freeRecord : Record
 freeRecord = freed (fresh false (record { 0 = 0 }) (record { 0 = 0 }))
 
--- the station that configuring gives, with "whether validation is not required" and the edition: "Unmatched (at first)", pilot "A at first", reading "0 at first"
-unfoldable pub configured : StationAddress → ModemAddress → Nid → Nmk → Bool → Edition → Station
-configured a m nid nmk exempt e = record {
-  config = record { good = isGood a m nid; address = a; modem = m; nid = nid; nmk = nmk; exempt = exempt; edition = e };
+-- the station that configuring gives, with "whether validation is not required", the edition and our carriers: "Unmatched (at first)", pilot "A at first", reading "0 at first"
+unfoldable pub configured : StationAddress → ModemAddress → Nid → Nmk → Bool → Edition → ℕ → Station
+configured a m nid nmk exempt e carriers = record {
+  config = record { good = isGood a m nid carriers; address = a; modem = m; nid = nid; nmk = nmk; exempt = exempt; edition = e; carriers = carriers };
   state = Unmatched;
   pilot = A;
   clock = 0;
@@ -52,8 +60,8 @@ configured a m nid nmk exempt e = record {
 }
 
 -- what configuring gives: "a bad one gives 16"
-abbrev pub configuring : StationAddress → ModemAddress → Nid → Outcome
-configuring a m nid = check (isGood a m nid) 16 (yes (record { frames = []; indication = Nothing }))
+abbrev pub configuring : StationAddress → ModemAddress → Nid → ℕ → Outcome
+configuring a m nid carriers = check (isGood a m nid carriers) 16 (yes (record { frames = []; indication = Nothing }))
 
 -- ---- the calls
 
@@ -113,3 +121,25 @@ toldIn c rs = atOwn (mine c rs) toldOf
 -- "by car address": 16, then 11
 unfoldable pub query : Station → CarAddress → Checked Told
 query s c = check (s .config .good) 16 (toldIn c (s .records))
+
+-- ---- the inspection
+
+-- a state's number, and the car
+pub record Inspected : Type 0 where
+  pub state : ℕ
+  pub car : CarAddress
+
+-- no car
+abbrev pub noCar : CarAddress
+noCar = record { 0 = 0 }
+
+-- "the car, in Joining and Matched, else 0"
+abbrev pub carIn : State → CarAddress
+carIn Unmatched = noCar
+carIn (Matching t) = noCar
+carIn (Joining t c run) = c
+carIn (Matched c) = c
+
+-- "the state's number and the car"; 16 where the configuration is bad
+unfoldable pub inspection : Configuration → State → Checked Inspected
+inspection o st = check (o .good) 16 (yes (record { state = stateNumber st; car = carIn st }))

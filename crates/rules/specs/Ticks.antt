@@ -113,4 +113,4 @@ unfoldable pub tickDone : Configuration → Bool → ℕ → State → List Reco
 tickDone o b e Unmatched rs = done Unmatched rs [] Nothing
 tickDone o b e (Matching a) rs = admissionDone (a - e) (noneHeld (map (tickRecord b e) rs)) (map (tickRecord b e) rs) (allFrames o b e rs)
 tickDone o b e (Joining l c run) rs = joiningDone (leb l e) (l - e) c run rs
-tickDone o b e Matched rs = done Matched rs [] Nothing
+tickDone o b e (Matched c) rs = done (Matched c) rs [] Nothing

@@ -21,9 +21,9 @@ ghost use Rattle.rules.specs.Constants.{recordCount};
 ghost use Rattle.rules.specs.Records as records;
 ghost use Rattle.rules.specs.Records.{noSums, noSpread};
 ghost use Rattle.rules.specs.Rules as rules;
-ghost use Rattle.rules.specs.Rules.{isGood, freeRecord, toldOf, toldIn};
-ghost use Rattle.rules.specs.Answers.{untoldAs, Tells, Configures};
-ghost use Rattle.rules.specs.Numbers.{pilotOf, editionOf};
+ghost use Rattle.rules.specs.Rules.{mayReply, isGood, freeRecord, toldOf, toldIn};
+ghost use Rattle.rules.specs.Answers.{untoldAs, Tells, Configures, inspectedOf};
+ghost use Rattle.rules.specs.Numbers.{pilotOf, editionOf, stateNumber};
 
 // Admission's time, in milliseconds as the others: the greatest TT_EVSE_SLAC_init.
 pub const ADMISSION_TIME: u32 = 50000;
@@ -91,7 +91,7 @@ pub const CONFIRMATION_OCTETS: usize = 60;
 // The least output that a frame or a tick asks for: a report of every record.
 pub const LEAST_OUTPUT: usize = REPORT_OCTETS * RECORDS;
 
-// What a station is configured with; good is false where it was refused, exempt is true where validation is not required.
+// What a station is configured with; good is false where it was refused, exempt is true where validation is not required, and carriers is how many carriers our modem has.
 pub struct Configuration {
     pub good: bool,
     pub address: StationAddress,
@@ -100,6 +100,7 @@ pub struct Configuration {
     pub nmk: Nmk,
     pub exempt: bool,
     pub edition: Edition,
+    pub carriers: u32,
 }
 
 // Where a car's run stands, with the time left; the last three are the steps of Validating.
@@ -140,7 +141,7 @@ pub struct Record {
 // The records of a station, side by side.
 pub type RecordArray = [Record; RECORDS];
 
-// The station's state; Matching carries admission's time left, Joining its own.
+// The station's state; Matching carries admission's time left, Joining its own; Joining and Matched have the car.
 pub enum State {
     Unmatched,
     Matching(u32),
@@ -149,7 +150,7 @@ pub enum State {
         car: CarAddress,
         run: RunId,
     },
-    Matched,
+    Matched(CarAddress),
 }
 
 // The state of the control pilot.
@@ -201,6 +202,12 @@ pub enum HeardAnswer {
 pub struct Queried {
     pub heard: HeardAnswer,
     pub spread: Spread,
+}
+
+// What the inspection gives: the state's number and the car, or a refusal.
+pub enum Inspection {
+    Refused(Refusal),
+    At { state: u32, car: CarAddress },
 }
 
 // A pilot state by its number: 0 to 4 for A to E, any other for F.
@@ -281,14 +288,21 @@ fn free_records() -> RecordArray
     [free; RECORDS]
 }
 
-// Whether a configuration is good: both addresses unicast and different, the NID below 2^54.
-pub fn is_good(address: StationAddress, modem: ModemAddress, nid: Nid) -> bool
-    ensures { λ r. ⌜ r ≡ isGood address modem nid ⌝ }
+// Whether replies can be sent: both addresses are unicast and different, and the NID is below 2^54.
+pub fn may_reply(address: StationAddress, modem: ModemAddress, nid: Nid) -> bool
+    ensures { λ r. ⌜ r ≡ mayReply address modem nid ⌝ }
 {
     messages::is_unicast(address.0)
         & messages::is_unicast(modem.0)
         & (address.0 != modem.0)
         & (nid.0 < messages::NID_LIMIT)
+}
+
+// Whether a configuration is good: so, and with as many carriers as there can be.
+fn is_good(address: StationAddress, modem: ModemAddress, nid: Nid, carriers: u32) -> bool
+    ensures { λ r. ⌜ r ≡ isGood address modem nid carriers ⌝ }
+{
+    may_reply(address, modem, nid) & amplitude::is_carriers(carriers as usize)
 }
 
 // A station, unmatched; a bad configuration is refused, and its station answers 16 to everything.
@@ -299,10 +313,11 @@ pub fn configure(
     nmk: Nmk,
     exempt: bool,
     edition: Edition,
+    carriers: u32,
 ) -> Configured
-    ensures { λ r. ⌜ Configures address modem nid nmk exempt edition r ⌝ }
+    ensures { λ r. ⌜ Configures address modem nid nmk exempt edition carriers r ⌝ }
 {
-    let good = is_good(address, modem, nid);
+    let good = is_good(address, modem, nid, carriers);
     let records = free_records();
     let config = Configuration {
         good: good,
@@ -312,6 +327,7 @@ pub fn configure(
         nmk: nmk,
         exempt: exempt,
         edition: edition,
+        carriers: carriers,
     };
     let station = Station {
         config: config,
@@ -399,5 +415,51 @@ pub fn query(station: Station, car: CarAddress) -> Queried
         told_in(records, car)
     } else {
         untold(Refusal::BadConfiguration)
+    }
+}
+
+// The number of a state: 0 Unmatched, 1 Matching, 2 Joining, 3 Matched.
+pub fn state_number(state: State) -> u32
+    ensures { λ r. ⌜ r ≡ stateNumber state ⌝ }
+{
+    match state {
+        State::Unmatched => 0,
+        State::Matching(_) => 1,
+        State::Joining {
+            left: _,
+            car: _,
+            run: _,
+        } => 2,
+        State::Matched(_) => 3,
+    }
+}
+
+// The car that joins or is matched; 0 where there is none.
+pub fn car_in(state: State) -> CarAddress
+    ensures { λ c. ⌜ c ≡ rules.carIn state ⌝ }
+{
+    match state {
+        State::Joining {
+            left: _,
+            car,
+            run: _,
+        } => car,
+        State::Matched(car) => car,
+        State::Unmatched => CarAddress(0),
+        State::Matching(_) => CarAddress(0),
+    }
+}
+
+// The inspection: the state's number, and the car in Joining and Matched.
+pub fn inspect(config: Configuration, state: State) -> Inspection
+    ensures { λ r. ⌜ inspectedOf r ≡ rules.inspection config state ⌝ }
+{
+    if config.good {
+        Inspection::At {
+            state: state_number(state),
+            car: car_in(state),
+        }
+    } else {
+        Inspection::Refused(Refusal::BadConfiguration)
     }
 }

@@ -3,14 +3,14 @@ use borrow.Author.Needs.{needs}
 use Rattle.rules.proofs.is_good.Statement.{statement}
 use Rattle.rules.proofs.is_good.Tie as tie
 
-is-unicast-requires : tie.Need-is-unicast-requires
-is-unicast-requires c κs = search needs
+may-reply-requires : tie.Need-may-reply-requires
+may-reply-requires c κs = search needs
 
-is-unicast-requires-2 : tie.Need-is-unicast-requires-2
-is-unicast-requires-2 c κs = search needs
+is-carriers-requires : tie.Need-is-carriers-requires
+is-carriers-requires c κs = search needs
 
 returns : tie.Need-returns
-returns c = simp (c .before .before .before .before .is-unicast .ensures, c .before .before .before .is-unicast2 .ensures)
+returns c = simp (c .before .may-reply .ensures, c .is-carriers .ensures)
 
 pub is-good-spec : {M : Type 1} → statement M
-is-good-spec = tie.close (tie.spec is-unicast-requires is-unicast-requires-2 returns)
+is-good-spec = tie.close (tie.spec may-reply-requires is-carriers-requires returns)
