@@ -30,7 +30,7 @@ use Rattle.car.specs.declared.frames.EffectAnswer.{EffectAnswer}
 use Rattle.car.specs.declared.frames.EffectAnswer.the-variants.{Refused, Taken}
 use Rattle.car.specs.declared.judge.Received.{Received}
 use Rattle.car.specs.declared.judge.StationMessage.{StationMessage}
-use Rattle.car.specs.declared.judge.StationMessage.the-variants.{ParmCnf, Report, MatchCnf, Validation}
+use Rattle.car.specs.declared.judge.StationMessage.the-variants.{ParmCnf, Report, MatchCnf, Untaken}
 use Rattle.car.specs.Frames.{effectOf, effectAnswerOf, onlyParmCnf}
 use Rattle.car.specs.Judge.{messageOf, receivedOf}
 use Rattle.car.proofs.judge.StationMessage as message
@@ -42,7 +42,7 @@ pub only-other : (m : StationMessage) (x : Effect) → OneOf (1 ∷ 2 ∷ 3 ∷ 
 only-other ParmCnf x o = absurd (miss (1 ∷ 2 ∷ 3 ∷ []) 0 tt o)
 only-other (Report k) x o = refl
 only-other (MatchCnf nid nmk) x o = refl
-only-other Validation x o = refl
+only-other Untaken x o = refl
 
 -- PARM.CNF alone is what Asking takes
 only-confirms : (t n : ℕ) (m : StationMessage) (g : List ℕ) → effectAnswerOf (onlyParmCnf m Confirms) g ≡ effectIn (Asking t n) (messageOf m g)
@@ -50,7 +50,7 @@ unfolding effectIn
 only-confirms t n ParmCnf g = refl
 only-confirms t n (Report k) g = refl
 only-confirms t n (MatchCnf nid nmk) g = refl
-only-confirms t n Validation g = refl
+only-confirms t n Untaken g = refl
 
 -- and Confirmed
 only-stays : (t : ℕ) (m : StationMessage) (g : List ℕ) → effectAnswerOf (onlyParmCnf m Stays) g ≡ effectIn (Confirmed t) (messageOf m g)
@@ -58,7 +58,7 @@ unfolding effectIn
 only-stays t ParmCnf g = refl
 only-stays t (Report k) g = refl
 only-stays t (MatchCnf nid nmk) g = refl
-only-stays t Validation g = refl
+only-stays t Untaken g = refl
 
 -- a message m that was found to be m′
 pub effect-of : (st : State) (m m′ : StationMessage) (g : List ℕ) → m ≡ m′ → effectIn st (messageOf m′ g) ≡ effectIn st (messageOf m g)

@@ -22,7 +22,11 @@ use Rattle.messages.specs.Table as table
 use Rattle.messages.specs.Table.{isUnicast}
 use Rattle.messages.proofs.CheckLaws.{pass, fail, passed}
 use Rattle.messages.proofs.Message.{the-type}
-use Rattle.ends.specs.Outcomes.{Done, andThen}
+use Rattle.amplitude.specs.Answers as maps
+use Rattle.amplitude.specs.Reading as amplitude
+use Rattle.amplitude.specs.Reading.{summaryOf}
+use Rattle.amplitude.specs.declared.ReadAnswer as mapAnswers
+use Rattle.ends.specs.Outcomes.{Done, andThen, orElse}
 use Rattle.ends.proofs.AnswerLaws.{yes-same}
 use Rattle.ends.proofs.Logic.{clash, OnYes}
 use Rattle.ends.proofs.Logic.{then-check}
@@ -33,12 +37,13 @@ use Rattle.car_rules.specs.Constants.{leastOutput}
 use Rattle.car_rules.specs.Frames.{stateRule, frameRule}
 use Rattle.car_rules.specs.Invariant.{Invariant}
 use Rattle.car_rules.specs.Received as rule
-use Rattle.car_rules.specs.Received.{receivedIn, received, isForUs}
+use Rattle.car_rules.specs.Received.{untaken, fromStation, messageAs, mapIn, received, isForUs}
 use Rattle.car_rules.specs.Rules as rules
 use Rattle.car_rules.proofs.ReceivedLaws.{FromUnicast, received-unicast}
 use Rattle.car.specs.declared.judge.Judged.{Judged}
 use Rattle.car.specs.declared.judge.Judged.the-variants as judged
 use Rattle.car.specs.declared.judge.Received as code
+use Rattle.car.specs.declared.judge.StationMessage.the-variants.{Untaken}
 use Rattle.car.specs.Judge.{groupsIn, Heard, heardIn, forUsRule, addressedRule, judgeRule, judgedOf, forUs, receivedOf}
 use Rattle.car.specs.Reports.{ReportsGood}
 use Rattle.car.specs.Steps.{Ready}
@@ -59,21 +64,25 @@ module _ (o : Configuration) (room : ℕ) (s : List ℕ) where
 
     module _ (h : leastOutput ≤ room) where
       -- reading, 19, 7
-      judged-read : judgeRule o room s ≡ forUsRule o (receivedIn (readRules Iso s))
+      judged-read : judgeRule o room s ≡ forUsRule o (orElse (readRules Iso s) messageAs (mapIn (summaryOf (amplitude.readRules s))))
       unfolding judgeRule received
       judged-read = pass (o .good) 16 _ (not-false (o .good) g) ∙ pass (leb leastOutput room) 15 _ (le-leb leastOutput room h)
 
+      -- by what reading the eleven messages gives
+      abbrev judgedBy : Checked table.Message → Checked Heard
+      judgedBy x = forUsRule o (orElse x messageAs (mapIn (summaryOf (amplitude.readRules s))))
+
       module _ (a : ReadAnswer) (e : answerOf Iso a (besideOf (readRules Iso s)) ≡ readRules Iso s) where
         -- by what reading answers
-        judged-answer : (b : ReadAnswer) → a ≡ b → forUsRule o (receivedIn (answerOf Iso b (besideOf (readRules Iso s)))) ≡ judgeRule o room s
+        judged-answer : (b : ReadAnswer) → a ≡ b → judgedBy (answerOf Iso b (besideOf (readRules Iso s))) ≡ judgeRule o room s
         judged-answer b t =
-            ap (λ (z : ReadAnswer). forUsRule o (receivedIn (answerOf Iso z (besideOf (readRules Iso s))))) (sym t)
-            ∙ ap (λ (z : Checked table.Message). forUsRule o (receivedIn z)) e
+            ap (λ (z : ReadAnswer). judgedBy (answerOf Iso z (besideOf (readRules Iso s)))) (sym t)
+            ∙ ap judgedBy e
             ∙ sym judged-read
 
-        -- what cannot be read
-        pub judged-unread : (x : Refusal) → a ≡ readAnswer.Refused x → no (numberOf x) ≡ judgeRule o room s
-        judged-unread x t = judged-answer (readAnswer.Refused x) t
+        -- what cannot be read as one of the eleven messages
+        pub judged-unread : (x : Refusal) (j : Judged) → a ≡ readAnswer.Refused x → ((g : List ℕ) → judgedOf j g ≡ forUsRule o (orElse (no (numberOf x)) messageAs (mapIn (summaryOf (amplitude.readRules s))))) → judgedOf j (groupsIn s) ≡ judgeRule o room s
+        judged-unread x j t p = p (groupsIn s) ∙ judged-answer (readAnswer.Refused x) t
 
         -- what was read
         pub judged-message : (m : Message) (j : Judged) → a ≡ readAnswer.Read m → ((b : Beside) → judgedOf j (b .groups) ≡ addressedRule o (messageOf Iso m b)) → judgedOf j (groupsIn s) ≡ judgeRule o room s
@@ -98,6 +107,14 @@ for-us-rule false x g = refl
 pub addressed-as : (o : Configuration) (c : CarAddress) (x : code.Received) (m m′ : Message) (j : Judged) → j ≡ forUs o c x → m ≡ m′
     → ((b : Beside) → check (ours o c x) 7 (yes (heardOf x (b .groups))) ≡ addressedRule o (messageOf Iso m′ b)) → (b : Beside) → judgedOf j (b .groups) ≡ addressedRule o (messageOf Iso m b)
 addressed-as o c x m m′ j e t h b = ap (λ (y : Judged). judgedOf y (b .groups)) e ∙ for-us-rule (ours o c x) x (b .groups) ∙ h b ∙ sym (ap (λ (y : Message). addressedRule o (messageOf Iso y b)) t)
+
+-- a message that no state takes
+pub untaken-as : (o : Configuration) (d f : ℕ) (j : Judged) → j ≡ forUs o (record { 0 = d }) (record { station = record { 0 = f }; run = record { 0 = 0 }; message = Untaken }) → (g : List ℕ) → judgedOf j g ≡ forUsRule o (fromStation d f 0 untaken)
+untaken-as o d f j e g = ap (λ (y : Judged). judgedOf y g) e ∙ for-us-rule (ours o (record { 0 = d }) (record { station = record { 0 = f }; run = record { 0 = 0 }; message = Untaken })) _ g
+
+-- what `map_addressed` gives, of the answer a that was found to be b
+pub map-as : (o : Configuration) (a b : mapAnswers.ReadAnswer) (y : Checked Heard) → a ≡ b → y ≡ forUsRule o (mapIn (maps.answerOf b)) → y ≡ forUsRule o (mapIn (maps.answerOf a))
+map-as o a b y t h = h ∙ sym (ap (λ (z : mapAnswers.ReadAnswer). forUsRule o (mapIn (maps.answerOf z))) t)
 
 -- 19
 pub only-stations : (o : Configuration) (m : Message) (b : Beside) → OneOf (0 ∷ 2 ∷ 4 ∷ 5 ∷ 6 ∷ 8 ∷ 10 ∷ []) (tagOf the-type m) → no 19 ≡ addressedRule o (messageOf Iso m b)

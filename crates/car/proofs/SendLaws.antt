@@ -6,17 +6,16 @@ use mathlib.Core.List.{List, [], _∷_}
 use native.Mathlib.Omega.{arith}
 use borrow.Author.Tests.{lt-ltb, le-ltb}
 use lib.Dec.{eqb, ltb}
-use lib.ListN.{length, length-replicate}
+use lib.ListN.{length}
 use Rattle.messages.specs.declared.Edition.the-variants.{Iso}
-use Rattle.messages.specs.declared.Ids.{Ids}
 use Rattle.messages.specs.declared.Message.{Message}
 use Rattle.messages.specs.declared.Message.the-variants.{SlacParmReq, StartAttenCharInd, AttenCharRsp, MnbcSoundInd, SlacMatchReq}
 use Rattle.messages.specs.declared.StationAddress.{StationAddress}
-use Rattle.messages.specs.Answers.{messageOf, besides}
-use Rattle.octets.specs.Octets.{value, splice}
+use Rattle.messages.specs.Answers.{messageOf}
+use Rattle.octets.specs.Octets.{splice}
 use Rattle.messages.specs.Reading.{Beside, noBeside}
 use Rattle.messages.specs.Table as table
-use Rattle.messages.specs.Table.{groupCount, idOctets, isoAttempt, isUnicast, broadcast}
+use Rattle.messages.specs.Table.{isoAttempt, isUnicast, broadcast}
 use Rattle.messages.specs.Writing.{isAddressed, lengthIn}
 use Rattle.messages.proofs.WriteLaws.{Typed, headIn, headed, whole-none, none-right}
 use Rattle.ends.specs.declared.Answer.{Answer}

@@ -11,7 +11,7 @@ use Rattle.car.specs.declared.frames.Effect.the-variants.{Confirms, Stay
 use Rattle.car.specs.declared.frames.EffectAnswer.{EffectAnswer}
 use Rattle.car.specs.declared.frames.EffectAnswer.the-variants as effectAnswer
 use Rattle.car.specs.declared.judge.StationMessage.{StationMessage}
-use Rattle.car.specs.declared.judge.StationMessage.the-variants.{ParmCnf, Report, MatchCnf, Validation}
+use Rattle.car.specs.declared.judge.StationMessage.the-variants.{ParmCnf, Report, MatchCnf, Untaken}
 
 -- an effect, with the group values g beside it
 abbrev pub effectOf : Effect → List ℕ → rule.Effect
@@ -31,4 +31,4 @@ abbrev pub onlyParmCnf : StationMessage → Effect → EffectAnswer
 onlyParmCnf ParmCnf x = effectAnswer.Taken x
 onlyParmCnf (Report k) x = effectAnswer.Refused WrongState
 onlyParmCnf (MatchCnf nid nmk) x = effectAnswer.Refused WrongState
-onlyParmCnf Validation x = effectAnswer.Refused WrongState
+onlyParmCnf Untaken x = effectAnswer.Refused WrongState

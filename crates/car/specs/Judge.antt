@@ -15,12 +15,12 @@ use Rattle.ends.specs.Outcomes.{andThen}
 use Rattle.car_rules.specs.declared.Configuration.{Configuration}
 use Rattle.car_rules.specs.Constants.{leastOutput}
 use Rattle.car_rules.specs.Received as rule
-use Rattle.car_rules.specs.Received.{parmCnf, report, matchCnf, validation, receivedIn, received, isForUs}
+use Rattle.car_rules.specs.Received.{parmCnf, report, matchCnf, untaken, messageAs, received, isForUs}
 use Rattle.car.specs.declared.judge.Judged.{Judged}
 use Rattle.car.specs.declared.judge.Judged.the-variants as judged
 use Rattle.car.specs.declared.judge.Received.{Received}
 use Rattle.car.specs.declared.judge.StationMessage.{StationMessage}
-use Rattle.car.specs.declared.judge.StationMessage.the-variants.{ParmCnf, Report, MatchCnf, Validation}
+use Rattle.car.specs.declared.judge.StationMessage.the-variants.{ParmCnf, Report, MatchCnf, Untaken}
 
 -- the group values of the message that a frame's octets read as
 abbrev pub groupsIn : List ℕ → List ℕ
@@ -31,7 +31,7 @@ abbrev pub messageOf : StationMessage → List ℕ → rule.StationMessage
 messageOf ParmCnf g = parmCnf
 messageOf (Report k) g = report k g
 messageOf (MatchCnf nid nmk) g = matchCnf nid nmk
-messageOf Validation g = validation
+messageOf Untaken g = untaken
 
 -- a station's message in a frame to d
 abbrev pub receivedOf : ℕ → Received → List ℕ → rule.Received
@@ -53,7 +53,7 @@ forUsRule o x = andThen x (λ (y : rule.Received). check (isForUs o y) 7 (yes (h
 
 -- of a message: 19, then 7
 abbrev pub addressedRule : Configuration → Message → Checked Heard
-addressedRule o m = forUsRule o (receivedIn (yes m))
+addressedRule o m = forUsRule o (messageAs m)
 
 -- 16, 15, reading, 19, 7, or the message
 unfoldable pub judgeRule : Configuration → ℕ → List ℕ → Checked Heard

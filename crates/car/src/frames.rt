@@ -53,7 +53,7 @@ fn in_sounding(message: StationMessage) -> EffectAnswer
         StationMessage::ParmCnf => EffectAnswer::Taken(Effect::Stays),
         StationMessage::Report(sounds) => EffectAnswer::Taken(Effect::Gathers(sounds)),
         StationMessage::MatchCnf { nid: _, nmk: _ } => EffectAnswer::Refused(Refusal::WrongState),
-        StationMessage::Validation => EffectAnswer::Refused(Refusal::WrongState),
+        StationMessage::Untaken => EffectAnswer::Refused(Refusal::WrongState),
     }
 }
 
@@ -68,7 +68,7 @@ fn in_requesting(message: StationMessage) -> EffectAnswer
             nid: nid,
             nmk: nmk,
         }),
-        StationMessage::Validation => EffectAnswer::Refused(Refusal::WrongState),
+        StationMessage::Untaken => EffectAnswer::Refused(Refusal::WrongState),
     }
 }
 

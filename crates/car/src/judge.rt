@@ -1,4 +1,7 @@
 // What is decided of a frame before the state is looked at: 16, 15, reading, 19, 7.
+use amplitude::ReadAnswer as MapAnswer;
+use amplitude::Receiver as MapReceiver;
+use amplitude::Sender;
 use car_rules::Configuration;
 use car_rules::LEAST_OUTPUT;
 use messages::CarAddress;
@@ -11,17 +14,28 @@ use messages::Refusal;
 use messages::RunId;
 use messages::StationAddress;
 ghost use mathlib.Core.Path.{_≡_};
-ghost use Rattle.messages.specs.Answers.{messageOf};
-ghost use Rattle.messages.specs.Reading.{Beside};
-ghost use Rattle.car.specs.Judge.{groupsIn, judgedOf, addressedRule, judgeRule, forUs};
+ghost use mathlib.Core.List.{List};
+ghost use Prim.Native.Nat.{ℕ};
+ghost use Rattle.messages.specs.Answers.{numberOf, messageOf};
+ghost use Rattle.messages.specs.Reading.{no, Beside};
+ghost use Rattle.amplitude.specs.Answers.{answerOf};
+ghost use Rattle.amplitude.specs.Reading as amplitude;
+ghost use Rattle.amplitude.specs.Reading.{summaryOf};
+ghost use Rattle.ends.specs.Outcomes.{orElse};
+ghost use Rattle.car_rules.specs.Received as rule;
+ghost use Rattle.car_rules.specs.Received.{fromStation, messageAs, mapIn};
+ghost use Rattle.car.specs.Judge.{groupsIn, judgedOf, forUsRule, addressedRule, judgeRule, forUs};
 
-// A station's message: PARM.CNF, a report with its sounds used, whose group values stand in the frame, MATCH.CNF, or VALIDATE.CNF.
+// A station's message: PARM.CNF, a report with its sounds used, whose group values stand in the frame, MATCH.CNF, or one that no state takes.
 pub(crate) enum StationMessage {
     ParmCnf,
     Report(u8),
     MatchCnf { nid: Nid, nmk: Nmk },
-    Validation,
+    Untaken,
 }
+
+// The number of the refusal of a type that is in no row of the table.
+const UNKNOWN_TYPE: u32 = 3;
 
 // A station's message to us, with its run: 0 where it has none.
 pub(crate) struct Received {
@@ -94,7 +108,7 @@ fn addressed(config: Configuration, message: Message) -> Judged
             Received {
                 station: station,
                 run: RunId(0),
-                message: StationMessage::Validation,
+                message: StationMessage::Untaken,
             },
         ),
         Message::SlacMatchCnf {
@@ -116,6 +130,51 @@ fn addressed(config: Configuration, message: Message) -> Judged
     }
 }
 
+// A message of amplitude maps: no state takes it.
+fn untaken(config: Configuration, receiver: MapReceiver, sender: Sender) -> Judged
+    ensures { λ j. ⌜ ((g : List ℕ) → judgedOf j g ≡ forUsRule config (fromStation (receiver .0) (sender .0) 0 rule.untaken)) ⌝ }
+{
+    for_us(
+        config,
+        CarAddress(receiver.0),
+        Received {
+            station: StationAddress(sender.0),
+            run: RunId(0),
+            message: StationMessage::Untaken,
+        },
+    )
+}
+
+// What a message of amplitude maps is to us.
+fn map_addressed(config: Configuration, answer: MapAnswer) -> Judged
+    ensures { λ j. ⌜ ((g : List ℕ) → judgedOf j g ≡ forUsRule config (mapIn (answerOf answer))) ⌝ }
+{
+    match answer {
+        MapAnswer::AmpMapReq {
+            receiver,
+            sender,
+            carriers: _,
+        } => untaken(config, receiver, sender),
+        MapAnswer::AmpMapCnf {
+            receiver,
+            sender,
+            success: _,
+        } => untaken(config, receiver, sender),
+        MapAnswer::Refused(refusal) => Judged::Refused(refusal),
+    }
+}
+
+// A frame that is none of the eleven messages: where its type is not theirs, it may be one of amplitude maps.
+fn unread(config: Configuration, refusal: Refusal, octets: &[u8]) -> Judged
+    ensures { λ j. ⌜ ((g : List ℕ) → judgedOf j g ≡ forUsRule config (orElse (no (numberOf refusal)) messageAs (mapIn (summaryOf (amplitude.readRules (now (octets .entry))))))) ⌝ }
+{
+    if messages::refusal_number(refusal) == UNKNOWN_TYPE {
+        map_addressed(config, amplitude::read(octets))
+    } else {
+        Judged::Refused(refusal)
+    }
+}
+
 // All that needs no state, in its order.
 pub(crate) fn judge(config: Configuration, octets: &[u8], room: usize) -> Judged
     ensures { λ j. ⌜ judgedOf j (groupsIn (now (octets .entry))) ≡ judgeRule config room (now (octets .entry)) ⌝ }
@@ -128,7 +187,7 @@ pub(crate) fn judge(config: Configuration, octets: &[u8], room: usize) -> Judged
     }
     let answer = messages::read(Edition::Iso, octets);
     match answer {
-        ReadAnswer::Refused(refusal) => Judged::Refused(refusal),
+        ReadAnswer::Refused(refusal) => unread(config, refusal, octets),
         ReadAnswer::Read(message) => addressed(config, message),
     }
 }

@@ -17,7 +17,7 @@ use Rattle.car_rules.specs.declared.State.the-variants.{Idle, Asking, Co
 use Rattle.car_rules.specs.Calls.{Call, start, frame, tick, linkUp, terminate}
 use Rattle.car_rules.specs.Constants.{leastOutput}
 use Rattle.car_rules.specs.Frames.{Effect, effectIn, ofOurRun, fromChosen, isExpected, stateRule, frameRule}
-use Rattle.car_rules.specs.Received.{StationMessage, parmCnf, report, matchCnf, validation, Received, received, isForUs}
+use Rattle.car_rules.specs.Received.{StationMessage, parmCnf, report, matchCnf, untaken, Received, received, isForUs}
 use Rattle.car_rules.specs.Rules.{configured, rule, step, outcome, after, keyQuery}
 use Rattle.car_rules.specs.Demand3.{isOfMatching, isOurs, isOwn, isForeign, Marked, all, rest, OnlyForeign, outcomes, others, Same, Demand3}
 use Rattle.ends.proofs.Logic.{on-then}
@@ -40,19 +40,19 @@ ours Idle m s = tt
 ours (Asking t n) parmCnf s = (refl, refl)
 ours (Asking t n) (report k vs) s = tt
 ours (Asking t n) (matchCnf nid nmk) s = tt
-ours (Asking t n) validation s = tt
+ours (Asking t n) untaken s = tt
 ours (Confirmed t) parmCnf s = (refl, refl)
 ours (Confirmed t) (report k vs) s = tt
 ours (Confirmed t) (matchCnf nid nmk) s = tt
-ours (Confirmed t) validation s = tt
+ours (Confirmed t) untaken s = tt
 ours (Sounding k t g) parmCnf s = (refl, refl)
 ours (Sounding k t g) (report n vs) s = (refl, refl)
 ours (Sounding k t g) (matchCnf nid nmk) s = tt
-ours (Sounding k t g) validation s = tt
+ours (Sounding k t g) untaken s = tt
 ours (Requesting t n d) parmCnf s = tt
 ours (Requesting t n d) (report k vs) s = (refl, refl)
 ours (Requesting t n d) (matchCnf nid nmk) s = (refl, refl)
-ours (Requesting t n d) validation s = tt
+ours (Requesting t n d) untaken s = tt
 ours (Joining t key) m s = tt
 ours (Matched key) m s = tt
 

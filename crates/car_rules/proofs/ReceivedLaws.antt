@@ -1,6 +1,6 @@
 -- What a car receives comes from a unicast address: reading has tested it.
 use Prim.Native.Nat.{ℕ}
-use mathlib.Core.Path.{_≡_}
+use mathlib.Core.Path.{_≡_, refl}
 use mathlib.Core.Bool.{true}
 use mathlib.Core.List.{List}
 use lib.ListN.{drop}
@@ -11,8 +11,13 @@ use Rattle.messages.specs.Table.{Kind, slacParmReq, slacParmCnf, startAttenChar
 use Rattle.messages.specs.Reading.{Checked, no, yes, Form, kindRules, frameRules, readRules}
 use Rattle.messages.specs.Writing.{isAddressed}
 use Rattle.messages.proofs.LayoutLaws.{and-left}
-use Rattle.ends.proofs.Logic.{OnYes, on-check}
-use Rattle.car_rules.specs.Received.{Received, receivedAs, receivedIn, received}
+use Rattle.amplitude.specs.Maps.{MapMessage, ampMapReq, ampMapCnf}
+use Rattle.amplitude.specs.Reading as amplitude
+use Rattle.amplitude.specs.Reading.{summaryOf}
+use Rattle.amplitude.proofs.NamedCars.{both-unicast}
+use Rattle.ends.proofs.Logic.{OnYes, on-check, on-else}
+use Rattle.car_rules.specs.Received.{Received, receivedAs, messageAs, mapIn, received}
+use Rattle.ends.specs.Outcomes.{andThen}
 
 abbrev Addressed : Message → Type 0
 Addressed m = isAddressed m ≡ true
@@ -42,10 +47,19 @@ unicast-as e slacMatchReq g d f vs a = tt
 unicast-as e slacMatchCnf g d f vs a = and-left (isUnicast f) (isUnicast d) a
 unicast-as e attenProfileInd g d f vs a = tt
 
-unicast-in : (x : Checked Message) → OnYes Addressed x → OnYes FromUnicast (receivedIn x)
+unicast-in : (x : Checked Message) → OnYes Addressed x → OnYes FromUnicast (andThen x messageAs)
 unicast-in (no n) a = tt
 unicast-in (yes m) a = unicast-as (m .edition) (m .kind) (m .count) (m .dst) (m .src) (m .values) a
 
+unicast-map : (s : List ℕ) (z : Checked MapMessage) → amplitude.readRules s ≡ z → OnYes FromUnicast (mapIn (summaryOf z))
+unicast-map s (no n) e = tt
+unicast-map s (yes (ampMapReq d f vs)) e = and-left (isUnicast f) (isUnicast d) (both-unicast s (ampMapReq d f vs) e)
+unicast-map s (yes (ampMapCnf d f x)) e = and-left (isUnicast f) (isUnicast d) (both-unicast s (ampMapCnf d f x) e)
+
+of-eleven : (s : List ℕ) → OnYes FromUnicast (andThen (readRules Iso s) messageAs)
+unfolding readRules
+of-eleven s = unicast-in (readRules Iso s) (frame-addressed Iso (kindRules Iso s) s)
+
 pub received-unicast : (s : List ℕ) → OnYes FromUnicast (received s)
-unfolding received readRules
-received-unicast s = unicast-in (readRules Iso s) (frame-addressed Iso (kindRules Iso s) s)
+unfolding received
+received-unicast s = on-else messageAs (mapIn (summaryOf (amplitude.readRules s))) FromUnicast (readRules Iso s) (of-eleven s) (unicast-map s (amplitude.readRules s) refl)

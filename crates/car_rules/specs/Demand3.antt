@@ -11,7 +11,7 @@ use Rattle.car_rules.specs.declared.State.{State}
 use Rattle.car_rules.specs.declared.State.the-variants.{Idle, Asking, Confirmed, Sounding, Requesting, Joining, Matched}
 use Rattle.car_rules.specs.Calls.{Call, start, frame, tick, linkUp, terminate}
 use Rattle.car_rules.specs.Frames.{sameStation, ofOurRun}
-use Rattle.car_rules.specs.Received.{StationMessage, parmCnf, report, matchCnf, validation, Received, received, isForUs}
+use Rattle.car_rules.specs.Received.{StationMessage, parmCnf, report, matchCnf, untaken, Received, received, isForUs}
 use Rattle.car_rules.specs.Rules.{step, outcome, after, keyQuery}
 
 -- ---- foreign frames
@@ -31,7 +31,7 @@ unfoldable pub isOfMatching : StationMessage → Bool
 isOfMatching parmCnf = true
 isOfMatching (report k vs) = true
 isOfMatching (matchCnf nid nmk) = true
-isOfMatching validation = false
+isOfMatching untaken = false
 
 -- one of these "to us and not from us, with the run that the car has when it comes"
 unfoldable pub isOwn : Car → Checked Received → Bool

@@ -18,7 +18,7 @@ use Rattle.car_rules.specs.declared.State.the-variants.{Idle, Asking, Co
 use Rattle.car_rules.specs.Cars.{reportsOf, inState, kept}
 use Rattle.car_rules.specs.Choice.{total}
 use Rattle.car_rules.specs.Constants.{confirmedTime, stationCount, leastOutput}
-use Rattle.car_rules.specs.Received.{StationMessage, parmCnf, report, matchCnf, validation, Received, isForUs}
+use Rattle.car_rules.specs.Received.{StationMessage, parmCnf, report, matchCnf, untaken, Received, isForUs}
 use Rattle.car_rules.specs.Sending.{rsp, done}
 
 -- two stations with one address
@@ -37,25 +37,25 @@ pub data Effect : Type 0 where
   -- MATCH.CNF, with its NID and NMK
   joins : Nid → Nmk → Effect
 
--- "PARM.CNF is taken in Asking, Confirmed and Sounding, ATTEN_CHAR.IND in Sounding and Requesting, MATCH.CNF in Requesting", VALIDATE.CNF in no state; else 8
+-- "PARM.CNF is taken in Asking, Confirmed and Sounding, ATTEN_CHAR.IND in Sounding and Requesting, MATCH.CNF in Requesting", VALIDATE.CNF and amplitude maps in no state; else 8
 unfoldable pub effectIn : State → StationMessage → Checked Effect
 effectIn Idle m = no 8
 effectIn (Asking t n) parmCnf = yes confirms
 effectIn (Asking t n) (report k vs) = no 8
 effectIn (Asking t n) (matchCnf nid nmk) = no 8
-effectIn (Asking t n) validation = no 8
+effectIn (Asking t n) untaken = no 8
 effectIn (Confirmed t) parmCnf = yes stays
 effectIn (Confirmed t) (report k vs) = no 8
 effectIn (Confirmed t) (matchCnf nid nmk) = no 8
-effectIn (Confirmed t) validation = no 8
+effectIn (Confirmed t) untaken = no 8
 effectIn (Sounding k t g) parmCnf = yes stays
 effectIn (Sounding k t g) (report n vs) = yes (gathers n vs)
 effectIn (Sounding k t g) (matchCnf nid nmk) = no 8
-effectIn (Sounding k t g) validation = no 8
+effectIn (Sounding k t g) untaken = no 8
 effectIn (Requesting t n s) parmCnf = no 8
 effectIn (Requesting t n s) (report k vs) = yes (repeats k)
 effectIn (Requesting t n s) (matchCnf nid nmk) = yes (joins nid nmk)
-effectIn (Requesting t n s) validation = no 8
+effectIn (Requesting t n s) untaken = no 8
 effectIn (Joining t key) m = no 8
 effectIn (Matched key) m = no 8
 

@@ -1,4 +1,4 @@
--- What a frame's octets say to a car: reading's refusals, then 19, or a station's message.
+-- What a frame's octets say to a car: reading's refusals, then 19, or a station's message. They are read as one of the eleven messages, or else as one of amplitude maps.
 use Prim.Native.Nat.{ℕ}
 use mathlib.Core.Bool.{Bool, not, _&&_}
 use mathlib.Core.List.{List}
@@ -12,15 +12,17 @@ use Rattle.messages.specs.declared.StationAddress.{StationAddress}
 use Rattle.messages.specs.Layout.{Values}
 use Rattle.messages.specs.Table.{Kind, slacParmReq, slacParmCnf, startAttenCharInd, attenCharInd, attenCharRsp, mnbcSoundInd, validateReq, validateCnf, slacMatchReq, slacMatchCnf, attenProfileInd, payload, Message}
 use Rattle.messages.specs.Reading.{Checked, no, yes, readRules}
-use Rattle.ends.specs.Outcomes.{andThen}
+use Rattle.amplitude.specs.Reading as amplitude
+use Rattle.amplitude.specs.Reading.{Summary, requested, confirmed, summaryOf}
+use Rattle.ends.specs.Outcomes.{andThen, orElse}
 use Rattle.car_rules.specs.declared.Configuration.{Configuration}
 
--- PARM.CNF, the report ATTEN_CHAR.IND with its sounds used and its group values, MATCH.CNF with NID and NMK, and VALIDATE.CNF
+-- PARM.CNF, the report ATTEN_CHAR.IND with its sounds used and its group values, MATCH.CNF with NID and NMK, and what no state takes: VALIDATE.CNF, AMP_MAP.REQ and AMP_MAP.CNF
 pub data StationMessage : Type 0 where
   parmCnf : StationMessage
   report : ℕ → List ℕ → StationMessage
   matchCnf : Nid → Nmk → StationMessage
-  validation : StationMessage
+  untaken : StationMessage
 
 -- a station's message, its run (0 where it has none), the station that sent it, and the frame's destination
 pub record Received : Type 0 where
@@ -42,18 +44,27 @@ receivedAs e attenCharInd g d f vs = fromStation d f (vs .0) (report (vs .1 .1 .
 receivedAs e attenCharRsp g d f vs = no 19
 receivedAs e mnbcSoundInd g d f vs = no 19
 receivedAs e validateReq g d f vs = no 19
-receivedAs e validateCnf g d f vs = fromStation d f 0 validation
+receivedAs e validateCnf g d f vs = fromStation d f 0 untaken
 receivedAs e slacMatchReq g d f vs = no 19
 receivedAs e slacMatchCnf g d f vs = fromStation d f (vs .1 .1 .0) (matchCnf (record { 0 = vs .1 .1 .1 .0 }) (record { 0 = vs .1 .1 .1 .1 .0; 1 = vs .1 .1 .1 .1 .1 .0 }))
 receivedAs e attenProfileInd g d f vs = no 19
 
--- of what reading gives
-abbrev pub receivedIn : Checked Message → Checked Received
-receivedIn x = andThen x (λ (m : Message). receivedAs (m .edition) (m .kind) (m .count) (m .dst) (m .src) (m .values))
+-- the same of a message
+abbrev pub messageAs : Message → Checked Received
+messageAs m = receivedAs (m .edition) (m .kind) (m .count) (m .dst) (m .src) (m .values)
+
+-- of amplitude maps: "at the car's end no state takes either"
+abbrev pub mapAs : Summary → Checked Received
+mapAs (requested d f n) = fromStation d f 0 untaken
+mapAs (confirmed d f x) = fromStation d f 0 untaken
+
+-- of what reading them gives
+abbrev pub mapIn : Checked Summary → Checked Received
+mapIn x = andThen x mapAs
 
 -- reading in the ISO edition, 19
 unfoldable pub received : List ℕ → Checked Received
-received s = receivedIn (readRules Iso s)
+received s = orElse (readRules Iso s) messageAs (mapIn (summaryOf (amplitude.readRules s)))
 
 -- what refusal 7 does not concern: "not to us, or from our own address"
 abbrev pub isForUs : Configuration → Received → Bool

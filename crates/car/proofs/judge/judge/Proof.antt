@@ -16,6 +16,9 @@ read-requires c κs = search needs
 enum-known-answer : tie.Need-enum-known-answer
 enum-known-answer c = search needs
 
+unread-requires : tie.Need-unread-requires
+unread-requires c κs = search needs
+
 enum-known-answer-2 : tie.Need-enum-known-answer-2
 enum-known-answer-2 c = search needs
 
@@ -24,8 +27,8 @@ addressed-requires c κs = search needs
 
 returns-3 : tie.Need-returns-3
 returns-3 c =
-    let a = c .before .before .before .before .before .before .before .before .args in
-    judged-unread (a .config) (a .room) (a .octets .now) (c .before .before .before .before .before .if1 .left) (c .before .before .before .before .if2 .left) (c .before .before .before .read .result) (c .before .before .before .read .ensures) _ (c .before .answer .given .1)
+    let a = c .before .before .before .before .before .before .before .before .before .args in
+    judged-unread (a .config) (a .room) (a .octets .now) (c .before .before .before .before .before .before .if1 .left) (c .before .before .before .before .before .if2 .left) (c .before .before .before .before .read .result) (c .before .before .before .before .read .ensures) _ (c .unread .result) (c .before .before .answer .given .1) (c .unread .ensures)
 
 returns-4 : tie.Need-returns-4
 returns-4 c =
@@ -40,6 +43,7 @@ judge-spec =
     returns-2
     read-requires
     enum-known-answer
+    unread-requires
     enum-known-answer-2
     addressed-requires
     returns-3
