@@ -1,4 +1,7 @@
-// What is decided of a frame before a record is looked at: 16, 15, reading, 17, 7, 8.
+// What is decided of a frame before the state and the records are looked at: 16, 15, reading, 17, 7; of the eleven messages, and apart from them of AMP_MAP.REQ.
+use amplitude::ReadAnswer as MapAnswer;
+use amplitude::Receiver as MapReceiver;
+use amplitude::Sender;
 use messages::BROADCAST;
 use messages::CarAddress;
 use messages::Message;
@@ -9,14 +12,15 @@ use messages::RunId;
 use records::requests::RunMessage;
 use rules::Configuration;
 use rules::LEAST_OUTPUT;
-use rules::State;
 ghost use mathlib.Core.Path.{_≡_};
 ghost use mathlib.Core.Bool.{_&&_};
-ghost use Rattle.messages.specs.Answers.{messageOf};
+ghost use lib.Dec.{eqb};
+ghost use Rattle.messages.specs.Answers.{numberOf, messageOf};
 ghost use Rattle.messages.specs.Reading.{Beside, besideOf, readRules};
-ghost use Rattle.rules.specs.Received.{notUs};
-ghost use Rattle.receiving.specs.Judge as rule;
-ghost use Rattle.receiving.specs.Judge.{requestOf, refusalIn, judgedOf, forUs, addressedRule, stateJudged, judgeRule};
+ghost use Rattle.amplitude.specs.Answers.{answerOf};
+ghost use Rattle.amplitude.specs.Reading.{requested};
+ghost use Rattle.rules.specs.Received.{notUs, mapAs, mapIn};
+ghost use Rattle.receiving.specs.Judge.{refusalIn, judgedOf, mapJudgedOf, forUs, forUsRule, addressedRule, judgeRule, mapJudgeRule};
 
 // What concerns a record that the car has: START, SOUND or RSP of a run, PROFILE with its group count, whose values stand in the frame, or the second VALIDATE.REQ with its timer.
 pub enum OwnMessage {
@@ -25,20 +29,28 @@ pub enum OwnMessage {
     ValidateSecond(u8),
 }
 
-// What a car's frame asks for: PARM.REQ, a message at its own record, the first VALIDATE.REQ, whose answer looks at all records, the second with its timer, or MATCH.REQ, whose identifiers stand in the frame.
+// What a car's frame asks for: PARM.REQ, a message at its own record, the first VALIDATE.REQ, whose answer looks at all records, or MATCH.REQ, whose identifiers stand in the frame.
 pub enum Request {
     Parm(RunId),
     Own(OwnMessage),
     ValidateFirst,
-    ValidateSecond(u8),
     Match(RunId),
 }
 
-// A refusal, or a car's request that the state takes.
+// A refusal, or a car's request.
 pub enum Judged {
     Refused(Refusal),
     Taken { car: CarAddress, request: Request },
 }
+
+// A refusal, or AMP_MAP.REQ of a car with its number of carriers.
+pub enum MapJudged {
+    Refused(Refusal),
+    Asked { car: CarAddress, carriers: usize },
+}
+
+// The number of the refusal of a type that is in no row of the table.
+const UNKNOWN_TYPE: u32 = 3;
 
 // The refusal of an answer that is one.
 fn refusal_in(answer: ReadAnswer) -> Refusal
@@ -82,7 +94,12 @@ fn validate_req(config: Configuration, car: CarAddress, receiver: Receiver, time
 {
     let us = config.address;
     if receiver.0 == BROADCAST {
-        for_us(config, true, car, Request::ValidateSecond(timer))
+        for_us(
+            config,
+            true,
+            car,
+            Request::Own(OwnMessage::ValidateSecond(timer)),
+        )
     } else {
         for_us(config, receiver.0 == us.0, car, Request::ValidateFirst)
     }
@@ -130,52 +147,16 @@ fn addressed(config: Configuration, message: Message) -> Judged
     }
 }
 
-// Whether a request is MATCH.REQ.
-fn is_match(request: Request) -> bool
-    ensures { λ b. ⌜ ((x : Beside) → b ≡ rule.isMatch (requestOf request x)) ⌝ }
+// Whether a refusal is that of a type which is in no row of the eleven messages' table.
+pub fn is_unknown(refusal: Refusal) -> bool
+    ensures { λ b. ⌜ b ≡ eqb (numberOf refusal) 3 ⌝ }
 {
-    match request {
-        Request::Match(_) => true,
-        Request::Parm(_) => false,
-        Request::Own(_) => false,
-        Request::ValidateFirst => false,
-        Request::ValidateSecond(_) => false,
-    }
+    messages::refusal_number(refusal) == UNKNOWN_TYPE
 }
 
-// Whether the state takes a request: Matching takes all, Joining MATCH.REQ only.
-fn takes(state: State, request: Request) -> bool
-    ensures { λ b. ⌜ ((x : Beside) → b ≡ rule.takes state (requestOf request x)) ⌝ }
-{
-    match state {
-        State::Matching(_) => true,
-        State::Joining {
-            left: _,
-            car: _,
-            run: _,
-        } => is_match(request),
-        State::Unmatched => false,
-        State::Matched => false,
-    }
-}
-
-// 8, where the state does not take the request.
-fn in_state(state: State, judged: Judged) -> Judged
-    ensures { λ j. ⌜ ((b : Beside) → judgedOf j b ≡ stateJudged state (judgedOf judged b)) ⌝ }
-{
-    let Judged::Taken { car: _, request } = judged else {
-        return judged;
-    };
-    if takes(state, request) {
-        judged
-    } else {
-        Judged::Refused(Refusal::WrongState)
-    }
-}
-
-// All that needs no record, in its order.
-pub fn judge(config: Configuration, state: State, octets: &[u8], room: usize) -> Judged
-    ensures { λ j. ⌜ judgedOf j (besideOf (readRules (config .edition) (now (octets .entry)))) ≡ judgeRule config state room (now (octets .entry)) ⌝ }
+// All that needs neither the state nor a record, in its order; a type that is none of the eleven messages' is refused with 3.
+pub fn judge(config: Configuration, octets: &[u8], room: usize) -> Judged
+    ensures { λ j. ⌜ judgedOf j (besideOf (readRules (config .edition) (now (octets .entry)))) ≡ judgeRule config room (now (octets .entry)) ⌝ }
 {
     let good = config.good;
     if !good {
@@ -189,5 +170,53 @@ pub fn judge(config: Configuration, state: State, octets: &[u8], room: usize) ->
     let ReadAnswer::Read(message) = answer else {
         return Judged::Refused(refusal_in(answer));
     };
-    in_state(state, addressed(config, message))
+    addressed(config, message)
+}
+
+// AMP_MAP.REQ to a station: 7, where that is another one, or the car is us or our modem.
+fn map_req(
+    config: Configuration,
+    receiver: MapReceiver,
+    sender: Sender,
+    carriers: usize,
+) -> MapJudged
+    ensures { λ j. ⌜ mapJudgedOf j ≡ forUsRule config (mapAs (requested (receiver .0) (sender .0) carriers)) ⌝ }
+{
+    let us = config.address;
+    let modem = config.modem;
+    let ours = receiver.0 == us.0;
+    if ours & (!(sender.0 == us.0) & !(sender.0 == modem.0)) {
+        MapJudged::Asked {
+            car: CarAddress(sender.0),
+            carriers: carriers,
+        }
+    } else {
+        MapJudged::Refused(Refusal::NotForUs)
+    }
+}
+
+// What a message of amplitude maps is to us: 17 for AMP_MAP.CNF, which we never ask for.
+fn map_addressed(config: Configuration, answer: MapAnswer) -> MapJudged
+    ensures { λ j. ⌜ mapJudgedOf j ≡ forUsRule config (mapIn (answerOf answer)) ⌝ }
+{
+    match answer {
+        MapAnswer::AmpMapReq {
+            receiver,
+            sender,
+            carriers,
+        } => map_req(config, receiver, sender, carriers),
+        MapAnswer::AmpMapCnf {
+            receiver: _,
+            sender: _,
+            success: _,
+        } => MapJudged::Refused(Refusal::OnlyForCars),
+        MapAnswer::Refused(refusal) => MapJudged::Refused(refusal),
+    }
+}
+
+// A frame whose type is none of the eleven messages': it may be one of amplitude maps.
+pub fn judge_map(config: Configuration, octets: &[u8]) -> MapJudged
+    ensures { λ j. ⌜ mapJudgedOf j ≡ mapJudgeRule config (now (octets .entry)) ⌝ }
+{
+    map_addressed(config, amplitude::read(octets))
 }

@@ -1,5 +1,4 @@
 -- By whether the run is empty.
-use mathlib.Core.Path.{sym, _∙_}
 use borrow.Author.Tests.{eq-eqb, ne-eqb}
 use Rattle.rules.specs.Records.{isEmpty}
 use borrow.Author.Needs.{needs}
