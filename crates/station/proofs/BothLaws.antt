@@ -11,7 +11,7 @@ use Rattle.rules.specs.declared.Configuration.{Configuration}
 use Rattle.rules.specs.declared.Record.{Record}
 use Rattle.ends.specs.Lists.{only, joins}
 use Rattle.ends.specs.Outcomes.{joined}
-use Rattle.rules.specs.Replies.{Reply, isReport, isConfirmation, frameTo, framesTo}
+use Rattle.rules.specs.Replies.{Reply, isReport, isConfirmation, frameTo}
 use Rattle.rules.specs.Ticks.{tickFrames, framesOfAll, allFrames}
 use Rattle.ends.proofs.ListLaws.{joins-append}
 use Rattle.records.specs.Timers.{tickReplies}

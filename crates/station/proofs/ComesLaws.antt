@@ -69,4 +69,4 @@ unfolding stateRule
 state-other o Unmatched rs c m t = refl
 state-other o (Matching a) rs c m t = absurd (miss (0 ∷ 2 ∷ 3 ∷ []) 1 tt t)
 state-other o (Joining l d k) rs c m t = refl
-state-other o Matched rs c m t = refl
+state-other o (Matched d) rs c m t = refl

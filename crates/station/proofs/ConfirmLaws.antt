@@ -1,7 +1,7 @@
 -- The loop over the records that sends their confirmations: its steps.
 use Prim.Native.Nat.{ℕ, _+_, _*_, _-_, _≤_, _<_}
 use mathlib.Core.Path.{_≡_, sym, ap, _∙_, subst}
-use mathlib.Core.Bool.{Bool, true}
+use mathlib.Core.Bool.{Bool}
 use mathlib.Core.List.{List, [], _∷_}
 use native.Mathlib.Omega.{arith}
 use lib.ListN.{length, take, drop, getD}
@@ -10,7 +10,7 @@ use Rattle.messages.specs.Table.{resultLimit}
 use Rattle.rules.specs.declared.Configuration.{Configuration}
 use Rattle.rules.specs.declared.Record.{Record}
 use Rattle.ends.specs.Lists.{only}
-use Rattle.rules.specs.Replies.{Reply, confirmation, isConfirmation, frameTo, framesTo}
+use Rattle.rules.specs.Replies.{confirmation, isConfirmation, frameTo, framesTo}
 use Rattle.rules.specs.Ticks.{tickFrames}
 use Rattle.rules.specs.Invariant.{GoodRecord}
 use Rattle.ends.proofs.ListLaws.{all-at}

@@ -35,7 +35,7 @@ unfolding linkRule
 not-joining Unmatched rs o = refl
 not-joining (Matching a) rs o = refl
 not-joining (Joining l c run) rs o = absurd (miss (0 ∷ 1 ∷ 3 ∷ []) 2 tt o)
-not-joining Matched rs o = refl
+not-joining (Matched c) rs o = refl
 
 -- ---- the calls of a station that is well configured
 
@@ -56,7 +56,7 @@ module _ (s : Station) (g : s .config .good ≡ true) where
   terminate-rule = pass (s .config .good) 16 _ g
 
   -- link up in Joining is accepted
-  pub link-joining : (l : ℕ) (c : CarAddress) (run : RunId) → s .state ≡ Joining l c run → rule (shared s) (inner s) linkUp ≡ yes (done Matched (s .records) [] LinkEstablished)
+  pub link-joining : (l : ℕ) (c : CarAddress) (run : RunId) → s .state ≡ Joining l c run → rule (shared s) (inner s) linkUp ≡ yes (done (Matched c) (s .records) [] LinkEstablished)
   unfolding rule linkRule
   link-joining l c run e = pass (s .config .good) 16 _ g ∙ ap (λ (st : State). linkRule st (s .records)) e
 

@@ -5,6 +5,7 @@ pub mod ComesLaws
 pub mod ParmLaws
 pub mod OwnLaws
 pub mod MatchLaws
+pub mod MapLaws
 pub mod KeptLaws
 pub mod EventLaws
 pub mod ReportLaws
@@ -13,5 +14,4 @@ pub mod BothLaws
 pub mod TickLoopLaws
 pub mod ConfirmLaws
 pub mod ResultLaws
-pub mod HeldLaws
 pub mod TickLaws

@@ -71,7 +71,7 @@ module _ (s : Station) (c : CarAddress) (run : RunId) (x y : List ℕ) where
   match-in Unmatched t = refl
   match-in (Matching a) t = absurd (miss (0 ∷ 3 ∷ []) 1 tt t)
   match-in (Joining l d k) t = absurd (miss (0 ∷ 3 ∷ []) 2 tt t)
-  match-in Matched t = refl
+  match-in (Matched d) t = refl
 
   -- neither Matching nor Joining
   pub match-elsewhere : OneOf (0 ∷ 3 ∷ []) (tagOf the-type (s .state)) → stateRule (s .config) (s .state) (s .records) c (matchReq run x y) ≡ no 8

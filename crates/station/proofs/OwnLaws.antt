@@ -76,7 +76,7 @@ unfolding ownPlace
 other-state Unmatched p o = refl
 other-state (Matching a) p o = absurd (miss (0 ∷ 2 ∷ 3 ∷ []) 1 tt o)
 other-state (Joining l c run) p o = refl
-other-state Matched p o = refl
+other-state (Matched c) p o = refl
 
 -- Matching, by the place that was found
 pub place-own : (st : State) (p : Found) (a i : ℕ) → st ≡ Matching a → p ≡ Own i → yes i ≡ ownPlace st p
@@ -105,7 +105,7 @@ placed (Matching a) (Own k) i e = ((a, refl), ap Own (ap (placeIn k) e))
 placed (Matching a) (Free k) i e = no-yes 11 i e
 placed (Matching a) Nothing i e = no-yes 11 i e
 placed (Joining l c run) p i e = no-yes 8 i e
-placed Matched p i e = no-yes 8 i e
+placed (Matched c) p i e = no-yes 8 i e
 
 -- the station's state and the car's own record, where its place was found
 pub record OwnHere (s : Station) (c : CarAddress) (i : ℕ) : Type 0 where
@@ -138,7 +138,7 @@ module _ (s : Station) (c : CarAddress) (m : RecordMessage) (f : Record → Chec
   refused-in n (Matching a) (Free i) es ep e = own-none a es (found c (s .records) _ (Free i) refl ep .mine) ∙ same-refusal _ n e
   refused-in n (Matching a) Nothing es ep e = own-none a es (found c (s .records) _ Nothing refl ep .mine) ∙ same-refusal _ n e
   refused-in n (Joining l d run) p es ep e = ap (λ (st : State). stateRule (s .config) st (s .records) c (forRecord m)) es ∙ same-refusal _ n e
-  refused-in n Matched p es ep e = ap (λ (st : State). stateRule (s .config) st (s .records) c (forRecord m)) es ∙ same-refusal _ n e
+  refused-in n (Matched d) p es ep e = ap (λ (st : State). stateRule (s .config) st (s .records) c (forRecord m)) es ∙ same-refusal _ n e
 
   -- 8 and 11
   pub not-placed : (n : ℕ) → ownPlace (s .state) (placeOf c (s .records)) ≡ no n → stateRule (s .config) (s .state) (s .records) c (forRecord m) ≡ no n

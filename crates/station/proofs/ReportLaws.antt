@@ -4,7 +4,6 @@ use mathlib.Core.Path.{_≡_, sym, ap, _∙_, subst}
 use mathlib.Core.List.{List, map}
 use native.Mathlib.Omega.{arith}
 use lib.ListN.{length}
-use Rattle.messages.specs.declared.Ids.{Ids}
 use Rattle.messages.specs.declared.Message.{Message}
 use Rattle.messages.specs.declared.Message.the-variants.{AttenCharInd, ValidateCnf}
 use Rattle.messages.specs.declared.Refusal.{Refusal}
@@ -15,7 +14,7 @@ use Rattle.messages.specs.Table as table
 use Rattle.messages.specs.Table.{groupCount, resultLimit}
 use Rattle.messages.specs.Reading.{Checked, no, yes, noId, Beside, noBeside}
 use Rattle.messages.specs.Writing.{frame, writeRules, lengthOf, octetsOf}
-use Rattle.messages.specs.Answers.{numberOf, messageOf, besides, writtenOf}
+use Rattle.messages.specs.Answers.{numberOf, messageOf, writtenOf}
 use Rattle.messages.proofs.WriteLaws.{full-message, length-frame, whole-none}
 use Rattle.rules.specs.declared.Configuration.{Configuration}
 use Rattle.rules.specs.declared.Record.{Record}

@@ -1,28 +1,22 @@
 -- What a first VALIDATE.REQ is answered, by the tests that the code makes.
 use Prim.Native.Nat.{ℕ, _<_}
-use mathlib.Core.Path.{_≡_, sym, ap, _∙_}
-use mathlib.Core.Bool.{Bool, true, false, cond}
+use mathlib.Core.Path.{_≡_, ap, _∙_}
+use mathlib.Core.Bool.{Bool, true, false}
 use mathlib.Core.List.{List}
 use native.Mathlib.Omega.{arith}
 use Rattle.messages.specs.Table.{resultLimit}
 use Rattle.messages.specs.Reading.{Checked}
 use Rattle.rules.specs.declared.Record.{Record}
-use Rattle.rules.specs.Constants.{readyResult, failureResult, notRequiredResult}
 use Rattle.rules.specs.Frames.{Kept, firstRule}
 use Rattle.rules.specs.Validation.{anyValidates, firstResult}
+use Rattle.records.specs.Validation.{resultBy}
 
-module _ (exempt : Bool) (rs : List Record) where
-  -- where validation is not required
-  pub first-exempt : exempt ≡ true → notRequiredResult ≡ firstResult exempt rs
-  unfolding firstResult
-  first-exempt h = rw h
+-- by whether any record is ready or counting
+pub first-by : (exempt any : Bool) (rs : List Record) (x : ℕ) → any ≡ anyValidates rs → x ≡ resultBy exempt any → x ≡ firstResult exempt rs
+unfolding firstResult
+first-by exempt any rs x e q = q ∙ ap (resultBy exempt) e
 
-  -- else by whether any record is ready or counting
-  pub first-other : (b g : Bool) → exempt ≡ false → b ≡ anyValidates rs → b ≡ g → cond g failureResult readyResult ≡ firstResult exempt rs
-  unfolding firstResult
-  first-other b g h e q = rw h (ap (λ (x : Bool). cond x failureResult readyResult) (sym q ∙ e))
-
-limited : (x y : Bool) → cond x notRequiredResult (cond y failureResult readyResult) < resultLimit
+limited : (x y : Bool) → resultBy x y < resultLimit
 limited true y = omega arith
 limited false true = omega arith
 limited false false = omega arith

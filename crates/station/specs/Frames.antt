@@ -57,7 +57,7 @@ ownPlace (Matching a) (found.Own i) = yes i
 ownPlace (Matching a) (found.Free i) = no 11
 ownPlace (Matching a) found.Nothing = no 11
 ownPlace (Joining l c run) p = no 8
-ownPlace Matched p = no 8
+ownPlace (Matched c) p = no 8
 
 -- car c's record back at place i, and its replies
 abbrev pub settled : Station → ℕ → CarAddress → Checked Kept → Checked Done

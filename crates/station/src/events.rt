@@ -3,6 +3,7 @@ use crate::answers;
 use crate::freeing;
 use crate::validating;
 use ends::Indication;
+use messages::CarAddress;
 use records::validation;
 use rules::ADMISSION_TIME;
 use rules::Pilot;
@@ -58,7 +59,7 @@ pub fn lost(state: State) -> Indication
             car: _,
             run: _,
         } => Indication::NoLink,
-        State::Matched => Indication::Nothing,
+        State::Matched(_) => Indication::Nothing,
     }
 }
 
@@ -102,12 +103,12 @@ pub(crate) fn change(station: Station, pilot: Pilot, reading: u32) -> Stepped
     }
 }
 
-// The station Matched, with the link established.
-pub(crate) fn linked(station: Station) -> Stepped
-    ensures { λ r. ⌜ Gives (shared station) (done State.Matched (station .records) [] Indication.LinkEstablished) [] [] r ⌝ }
+// The station Matched with the car that joined, and the link established.
+pub(crate) fn linked(station: Station, car: CarAddress) -> Stepped
+    ensures { λ r. ⌜ Gives (shared station) (done (State.Matched car) (station .records) [] Indication.LinkEstablished) [] [] r ⌝ }
 {
     let pilot = station.pilot;
     let records = station.records;
-    let next = answers::anew(station, pilot, station.clock, State::Matched, records);
+    let next = answers::anew(station, pilot, station.clock, State::Matched(car), records);
     answers::without_frames(next, Indication::LinkEstablished)
 }

@@ -277,9 +277,6 @@ pub(crate) fn accept(
         Request::Parm(run) => parm_req(station, car, run, out),
         Request::Own(message) => at_own(station, car, message, octets, out),
         Request::ValidateFirst => validate_first(station, car, out),
-        Request::ValidateSecond(timer) => {
-            at_own(station, car, OwnMessage::ValidateSecond(timer), octets, out)
-        }
         Request::Match(run) => {
             let ids = messages::identifiers(edition, octets);
             match_req(station, car, run, ids, out)

@@ -5,6 +5,7 @@ mod confirming;
 pub mod events;
 mod frames;
 mod freeing;
+mod maps;
 mod reports;
 mod sending;
 mod ticks;
@@ -30,10 +31,9 @@ pub fn frame(station: Station, octets: &[u8], out: &mut [u8]) -> Stepped
     ensures { λ r. ⌜ Answers station (calls.frame (now (octets .entry)) (length (now (out .entry)))) (now (out .entry)) (now (out .exit)) r ⌝ }
 {
     let config = station.config;
-    let state = station.state;
-    let judged = judge::judge(config, state, octets, out.len());
+    let judged = judge::judge(config, octets, out.len());
     match judged {
-        Judged::Refused(refusal) => answers::refused(station, refusal),
+        Judged::Refused(refusal) => maps::unread(station, refusal, octets, out),
         Judged::Taken { car, request } => frames::accept(station, car, request, octets, out),
     }
 }
@@ -88,11 +88,11 @@ pub fn link_up(station: Station) -> Stepped
     }
     let State::Joining {
         left: _,
-        car: _,
+        car,
         run: _,
     } = state
     else {
         return answers::refused(station, Refusal::WrongState);
     };
-    events::linked(station)
+    events::linked(station, car)
 }

@@ -44,7 +44,7 @@ pub(crate) fn run(station: Station, reading: u32, elapsed: u32, out: &mut [u8]) 
                 )
             }
         }
-        State::Matched => read(station, reading, State::Matched, Indication::Nothing),
+        State::Matched(car) => { read(station, reading, State::Matched(car), Indication::Nothing) }
     }
 }
 

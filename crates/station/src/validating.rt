@@ -1,8 +1,5 @@
 // Validation over all records: toggles, and what a first VALIDATE.REQ is answered.
 use records::validation;
-use rules::FAILURE_RESULT;
-use rules::NOT_REQUIRED_RESULT;
-use rules::READY_RESULT;
 use rules::RECORDS;
 use rules::RecordArray;
 use rules::Turn;
@@ -43,12 +40,5 @@ fn any_validates(records: RecordArray) -> bool
 pub(crate) fn first_result(exempt: bool, records: RecordArray) -> u8
     ensures { λ x. ⌜ x ≡ firstResult exempt records ⌝ }
 {
-    if exempt {
-        return NOT_REQUIRED_RESULT;
-    }
-    if any_validates(records) {
-        FAILURE_RESULT
-    } else {
-        READY_RESULT
-    }
+    validation::first_result(exempt, any_validates(records))
 }

@@ -14,8 +14,8 @@ refused-requires c κs = search needs
 returns : tie.Need-returns
 returns c = unconfigured _ _ (c .before .before .before .before .pre) _ _ (not-true _ (c .before .if1 .taken)) (c .refused .ensures)
 
-enum-told : tie.Need-enum-told
-enum-told c = search needs
+enum-known-state : tie.Need-enum-known-state
+enum-known-state c = search needs
 
 refused-requires-2 : tie.Need-refused-requires-2
 refused-requires-2 c κs = search needs
@@ -30,8 +30,8 @@ linked-requires c κs = search needs
 
 returns-3 : tie.Need-returns-3
 returns-3 c =
-    let s = c .before .before .before .before .before .before in
-    accepted _ _ (s .pre) _ _ _ _ _ tt (same-shared (shared (s .args .station)) .1) (link-joining (s .args .station) (not-false _ (c .before .before .before .if1 .left)) _ _ _ (c .before .enum-told .given .1)) (c .linked .ensures)
+    let s = c .before .before .before .before .before .before .before in
+    accepted _ _ (s .pre) _ _ _ _ _ tt (same-shared (shared (s .args .station)) .1) (link-joining (s .args .station) (not-false _ (c .before .before .before .before .if1 .left)) _ _ _ (c .before .before .state .given .1)) (c .linked .ensures)
 
 pub link-up-spec : {M : Type 1} → statement M
 link-up-spec =
@@ -39,7 +39,7 @@ link-up-spec =
     (tie.spec
     refused-requires
     returns
-    enum-told
+    enum-known-state
     refused-requires-2
     returns-2
     linked-requires

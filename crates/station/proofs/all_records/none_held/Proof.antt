@@ -7,7 +7,7 @@ use lib.ListN.{length}
 use mathlib.Core.Bool.{true, false}
 use Rattle.rules.specs.Records.{isHeld, noneHeld}
 use Rattle.rules.proofs.IndexLaws.{passed}
-use Rattle.station.proofs.HeldLaws.{Sought, seek-here, seek-next, seek-end, held-settles, held-field}
+use Rattle.records.proofs.SeekLaws.{Sought, seek-here, seek-next, seek-end, held-settles, held-field}
 use Rattle.station.proofs.all_records.none_held.Statement.{statement}
 use Rattle.station.proofs.all_records.none_held.Tie as tie
 

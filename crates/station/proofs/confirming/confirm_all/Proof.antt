@@ -4,10 +4,7 @@ use mathlib.Core.Logic.{⊎-elim}
 use native.Mathlib.Omega.{arith}
 use borrow.Author.Needs.{needs}
 use lib.ListN.{length}
-use Rattle.rules.specs.Replies.{isConfirmation}
-use Rattle.rules.specs.Ticks.{tickFrames}
 use Rattle.rules.proofs.IndexLaws.{passed}
-use Rattle.station.specs.Reports.{confirmationSize}
 use Rattle.station.proofs.SentLoopLaws.{send-none, send-all}
 use Rattle.station.proofs.ConfirmLaws.{Confirming, confirm-none, confirm-sendable, confirm-limited, confirm-room, confirm-part, confirm-one}
 use Rattle.station.proofs.confirming.confirm_all.Statement.{statement}

@@ -2,8 +2,7 @@
 use mathlib.Core.Path.{refl, sym, ap, _∙_}
 use Rattle.station.proofs.StepLaws.{no-frames}
 use Rattle.station.proofs.EventLaws.{all-freed, stays, plugs, unplugs}
-use mathlib.Core.List.{List, map}
-use Rattle.rules.specs.declared.Record.{Record}
+use mathlib.Core.List.{map}
 use Rattle.rules.specs.declared.Turn.{Turn}
 use Rattle.rules.specs.Validation.{toggledRecord}
 use Rattle.station.specs.Steps.{anew}

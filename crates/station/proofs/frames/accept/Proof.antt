@@ -39,18 +39,12 @@ validate-first-requires c κs = search needs
 enum-known-request-3 : tie.Need-enum-known-request-3
 enum-known-request-3 c = search needs
 
-at-own-requires-2 : tie.Need-at-own-requires-2
-at-own-requires-2 c κs = asked (c .before .before .before .before .before .before .before) _ (c .before .before .request3 .given .1)
-
-enum-known-request-4 : tie.Need-enum-known-request-4
-enum-known-request-4 c = search needs
-
 identifiers-requires : tie.Need-identifiers-requires
 identifiers-requires c κs = search needs
 
 match-req-requires : tie.Need-match-req-requires
 match-req-requires c κs =
-    let w = asked (c .before .before .before .before .before .before .before .before) _ (c .before .before .before .request4 .given .1) in
+    let w = asked (c .before .before .before .before .before .before .before .before) _ (c .before .before .before .request3 .given .1) in
     let ids = c .before .identifiers .ensures in
     (w .0, (subst (IsId _) (sym (ids .0)) (w .1 .0), subst (IsId _) (sym (ids .1)) (w .1 .1)))
 
@@ -76,18 +70,12 @@ same-length-4 : tie.Need-same-length-4
 same-length-4 c = search needs
 
 returns-4 : tie.Need-returns-4
-returns-4 c = let a = c .before .before .before .before .before .before .before .before .before .before .args in comes-as (a .station) _ _ (a .out .now) _ (c .before .before .at-own2 .result) (sym (ap (λ (q : Request). stateRule (a .station .config) (a .station .state) (a .station .records) (a .car) (requestOf q (besideOf (readRules (a .station .config .edition) (a .octets .now))))) (c .before .before .before .before .before .request3 .given .1))) (c .before .before .at-own2 .ensures)
-
-same-length-5 : tie.Need-same-length-5
-same-length-5 c = search needs
-
-returns-5 : tie.Need-returns-5
-returns-5 c =
+returns-4 c =
     let a = c .before .before .before .before .before .before .before .before .before .before .before .args in
     let ids = c .before .before .before .before .identifiers .ensures in
     comes-as (a .station) _ _ (a .out .now) _ (c .before .before .match-req .result)
-    (ap₂ (λ (x y : List ℕ). stateRule (a .station .config) (a .station .state) (a .station .records) (a .car) (matchReq (c .before .before .before .before .before .before .request4 .given .0 .0) x y)) (ids .0) (ids .1)
-    ∙ sym (ap (λ (q : Request). stateRule (a .station .config) (a .station .state) (a .station .records) (a .car) (requestOf q (besideOf (readRules (a .station .config .edition) (a .octets .now))))) (c .before .before .before .before .before .before .request4 .given .1)))
+    (ap₂ (λ (x y : List ℕ). stateRule (a .station .config) (a .station .state) (a .station .records) (a .car) (matchReq (c .before .before .before .before .before .before .request3 .given .0 .0) x y)) (ids .0) (ids .1)
+    ∙ sym (ap (λ (q : Request). stateRule (a .station .config) (a .station .state) (a .station .records) (a .car) (requestOf q (besideOf (readRules (a .station .config .edition) (a .octets .now))))) (c .before .before .before .before .before .before .request3 .given .1)))
     (c .before .before .match-req .ensures)
 
 pub accept-spec : {M : Type 1} → statement M
@@ -101,8 +89,6 @@ accept-spec =
     enum-told
     validate-first-requires
     enum-known-request-3
-    at-own-requires-2
-    enum-known-request-4
     identifiers-requires
     match-req-requires
     same-length
@@ -112,6 +98,4 @@ accept-spec =
     same-length-3
     returns-3
     same-length-4
-    returns-4
-    same-length-5
-    returns-5)
+    returns-4)

@@ -1,14 +1,9 @@
 -- `station::frames::at_own` meets its contract: the car's own record, or 8 or 11.
 use Rattle.messages.specs.Reading.{besideOf, readRules}
-use Rattle.messages.specs.Answers.{numberOf}
 use Rattle.receiving.specs.AtRecord.{admissionOf}
-use Rattle.rules.specs.Validation.{firstResult}
 use Rattle.receiving.specs.AtRecord.{ownRule}
 use Rattle.receiving.specs.Judge.{ownMessageOf}
 use Rattle.ends.proofs.ListLaws.{length-mapped, all-at}
-use Rattle.rules.specs.declared.State.the-variants.{Matching}
-use Rattle.records.proofs.PlaceLaws.{OwnAt, found}
-use Rattle.records.specs.declared.find.Found.the-variants.{Own}
 use Rattle.rules.specs.Constants.{recordCount}
 use Rattle.rules.specs.Invariant.{GoodRecord}
 use Rattle.rules.specs.declared.Record.{Record}

@@ -1,5 +1,5 @@
 -- `station::frames::confirm` meets its contract, by the verdict.
-use Rattle.messages.specs.Reading.{Checked, yes}
+use Rattle.messages.specs.Reading.{yes}
 use Rattle.ends.specs.Outcomes.{andThen}
 use Rattle.records.specs.Requests.{verdictOf}
 use Rattle.records.specs.declared.requests.Verdict.{Verdict}

@@ -1,5 +1,5 @@
 -- By the state, and by the place that was found.
-use mathlib.Core.Path.{sym, ap, _∙_}
+use mathlib.Core.Path.{sym, _∙_}
 use Rattle.station.proofs.OwnLaws.{other-state, place-own, place-none}
 use borrow.Author.Needs.{needs}
 use Rattle.station.proofs.frames.own_place.Statement.{statement}

@@ -30,8 +30,8 @@ read-requires-2 c κs = search needs
 read-requires-3 : tie.Need-read-requires-3
 read-requires-3 c κs = search needs
 
-enum-told-2 : tie.Need-enum-told-2
-enum-told-2 c = search needs
+enum-known-state-3 : tie.Need-enum-known-state-3
+enum-known-state-3 c = search needs
 
 read-requires-4 : tie.Need-read-requires-4
 read-requires-4 c κs = search needs
@@ -54,7 +54,7 @@ returns-4 c = joining-runs (c .before .before .before .before .before .before .b
 
 returns-5 : tie.Need-returns-5
 unfolding tickDone
-returns-5 c = tick-reads (c .before .before .before .before .args .station) _ _ _ _ _ _ _ (c .before .enum-told2 .given .1) refl (c .read4 .ensures)
+returns-5 c = tick-reads (c .before .before .before .before .before .args .station) _ _ _ _ _ _ _ (c .before .before .state3 .given .1) refl (c .read4 .ensures)
 
 pub run-spec : {M : Type 1} → statement M
 run-spec =
@@ -68,7 +68,7 @@ run-spec =
     left-after-requires
     read-requires-2
     read-requires-3
-    enum-told-2
+    enum-known-state-3
     read-requires-4
     returns
     same-length

@@ -7,7 +7,7 @@ use lib.ListN.{length}
 use mathlib.Core.Bool.{true, false}
 use Rattle.rules.specs.Validation.{isValidating, anyValidates}
 use Rattle.rules.proofs.IndexLaws.{passed}
-use Rattle.station.proofs.HeldLaws.{Sought, seek-here, seek-next, seek-end, validates-settles}
+use Rattle.records.proofs.SeekLaws.{Sought, seek-here, seek-next, seek-end, validates-settles}
 use Rattle.station.proofs.validating.any_validates.Statement.{statement}
 use Rattle.station.proofs.validating.any_validates.Tie as tie
 
