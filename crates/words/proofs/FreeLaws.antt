@@ -11,14 +11,13 @@ use lib.Seq.{ext-getD, getD-set-same, getD-set-other}
 use Rattle.octets.specs.Octets.{part}
 use Rattle.messages.specs.Table.{groupCount}
 use Rattle.messages.specs.declared.Edition.{Edition}
-use Rattle.rules.specs.declared.Record.{Record}
 use Rattle.rules.specs.Constants.{recordCount}
 use Rattle.rules.specs.Records.{freed}
 use Rattle.rules.specs.Rules.{freeRecord}
 use Rattle.rules.specs.declared.Configuration.{Configuration}
 use Rattle.ends.proofs.Logic.{split}
 use Rattle.ends.proofs.WordLaws.{word-at}
-use Rattle.words.specs.Words.{headCount, width, wordCount, spreadWidth, editionIn, recordOf, recordsOf, stationOf, withRecords}
+use Rattle.words.specs.Words.{width, wordCount, spreadWidth, editionIn, recordOf, recordsOf, stationOf, withRecords}
 use Rattle.words.proofs.HeadWords.{SameHead, config-same, station-same}
 use Rattle.words.proofs.RecordWords.{place, length-records, record-at}
 

@@ -21,11 +21,11 @@ use Rattle.rules.specs.declared.Station.{Station}
 use Rattle.rules.specs.Constants.{recordCount}
 use Rattle.rules.specs.Invariant.{GoodRecord, GoodConfiguration, Invariant}
 use Rattle.ends.specs.Lists.{All}
-use Rattle.rules.specs.Rules.{isGood}
+use Rattle.rules.specs.Rules.{mayReply, carIn}
 use Rattle.words.specs.Words.{headCount, width, wordCount, sumCount, spreadWidth, spreadCount, recordOf, sumRuns, spreadRuns, given, recordsOf, configOf, editionIn, stateBy, stateOf, stationOf, withRecords, inState}
-use Rattle.rules.specs.Numbers.{pilotOf, editionOf}
+use Rattle.rules.specs.Numbers.{pilotOf, editionOf, stateNumber}
 use Rattle.ends.specs.Words.{flagOf, runs}
-use Rattle.words.specs.Written.{stateNumber, stateTime, stateCar, stateRun, pilotNumber, editionNumber, wordsOf, spreadOctets, headOf}
+use Rattle.words.specs.Written.{stateTime, stateRun, Fits, pilotNumber, editionNumber, wordsOf, spreadOctets, headOf}
 use Rattle.ends.proofs.RunLaws.{getD-before, getD-front}
 use Rattle.words.proofs.CopyLaws.{Sized, length-spread}
 use Rattle.words.proofs.RecordWords.{place, length-records, record-put, flag-back, record-back}
@@ -40,7 +40,7 @@ SameHead v w = (j : ℕ) → j < headCount → getD v j 0 ≡ getD w j 0
 module _ (v w : List ℕ) (e : SameHead v w) where
   pub config-same : configOf v ≡ configOf w
   unfolding configOf
-  config-same = rw (e 0 (omega arith), e 1 (omega arith), e 2 (omega arith), e 3 (omega arith), e 4 (omega arith), e 5 (omega arith), e 12 (omega arith), e 13 (omega arith))
+  config-same = rw (e 0 (omega arith), e 1 (omega arith), e 2 (omega arith), e 3 (omega arith), e 4 (omega arith), e 5 (omega arith), e 12 (omega arith), e 13 (omega arith), e 14 (omega arith))
 
   state-same : stateOf v ≡ stateOf w
   state-same = rw (e 6 (omega arith), e 7 (omega arith), e 8 (omega arith), e 9 (omega arith))
@@ -75,15 +75,15 @@ module _ (w s x : List ℕ) (i : ℕ) (r : Record) (g : GoodRecord (editionIn w)
 
 -- ---- a station's own words
 
-good-back : (o : Configuration) → GoodConfiguration o → o .good ≡ true → isGood (o .address) (o .modem) (o .nid) ≡ true
+good-back : (o : Configuration) → GoodConfiguration o → o .good ≡ true → mayReply (o .address) (o .modem) (o .nid) ≡ true
 good-back o g h = rw (g .address h, g .modem h, ne-eqb (o .address .0) (o .modem .0) (g .different h), lt-ltb (o .nid .0) (2 ^ 54) (g .nid h))
 
-state-back : (st : State) → stateTime st < 2 ^ 32 → stateBy (stateNumber st) (stateTime st) (stateCar st) (stateRun st) ≡ st
+state-back : (st : State) → stateTime st < 2 ^ 32 → stateBy (stateNumber st) (stateTime st) (carIn st .0) (stateRun st) ≡ st
 unfolding stateBy
 state-back Unmatched h = refl
 state-back (Matching t) h = ap Matching (omega arith)
 state-back (Joining t c run) h = ap (λ (n : ℕ). Joining n c run) (omega arith)
-state-back Matched h = refl
+state-back (Matched c) h = refl
 
 pilot-back : (p : Pilot) → pilotOf (pilotNumber p) ≡ p
 unfolding pilotOf
@@ -100,16 +100,20 @@ edition-back Iso = refl
 edition-back Sae = refl
 
 -- the station of its head and its records
-pub station-back : (z : Station) (s x : List ℕ) → GoodConfiguration (z .config) → stateTime (z .state) < 2 ^ 32 → z .clock < 2 ^ 32
+pub station-back : (z : Station) (s x : List ℕ) → GoodConfiguration (z .config) → Fits (z .config) (z .state) (z .clock)
     → withRecords (stationOf (headOf (z .config) (z .state) (z .pilot) (z .clock)) s x) (z .records) ≡ z
 unfolding stationOf configOf headOf
-station-back z s x g h k =
+station-back z s x g fit =
     let o = z .config in
-    let b : eqb (flagOf (o .good)) 1 && isGood (o .address) (o .modem) (o .nid) ≡ o .good = flag-and (o .good) (isGood (o .address) (o .modem) (o .nid)) (good-back o g) in
+    let h = fit .0 in
+    let k = fit .1 .0 in
+    let l = fit .1 .1 in
+    let b : eqb (flagOf (o .good)) 1 && mayReply (o .address) (o .modem) (o .nid) ≡ o .good = flag-and (o .good) (mayReply (o .address) (o .modem) (o .nid)) (good-back o g) in
     let f : eqb (flagOf (o .exempt)) 1 ≡ o .exempt = flag-back (o .exempt) in
     let e : z .clock % 2 ^ 32 ≡ z .clock = omega arith in
+    let m : o .carriers % 2 ^ 32 ≡ o .carriers = omega arith in
     λ i. record {
-      config = record { good = b i; address = o .address; modem = o .modem; nid = o .nid; nmk = o .nmk; exempt = f i; edition = edition-back (o .edition) i };
+      config = record { good = b i; address = o .address; modem = o .modem; nid = o .nid; nmk = o .nmk; exempt = f i; edition = edition-back (o .edition) i; carriers = m i };
       state = state-back (z .state) h i;
       pilot = pilot-back (z .pilot) i;
       clock = e i;
@@ -130,12 +134,12 @@ module _ (z : Station) (w v : List ℕ) (l : headCount ≤ length w) (e : v ≡ 
       subst (λ (x : Edition). All (GoodRecord x) (z .records)) (sym same) (k .records)
 
   -- and then its records
-  pub packed : (s x : List ℕ) (y : Station) → GoodConfiguration (z .config) → stateTime (z .state) < 2 ^ 32 → z .clock < 2 ^ 32 → y ≡ withRecords (stationOf v s x) (z .records) → y ≡ z
-  packed s x y g h k f =
+  pub packed : (s x : List ℕ) (y : Station) → GoodConfiguration (z .config) → Fits (z .config) (z .state) (z .clock) → y ≡ withRecords (stationOf v s x) (z .records) → y ≡ z
+  packed s x y g k f =
       let head = headOf (z .config) (z .state) (z .pilot) (z .clock) in
       f
       ∙ ap (λ (u : Station). withRecords u (z .records)) (station-same v head same-head s x s x (recordsOf v s x) refl)
-      ∙ station-back z s x g h k
+      ∙ station-back z s x g k
 
   -- the records behind it are as they were
   behind : z .config .edition ≡ editionIn w → (s x : List ℕ) → recordsOf v s x ≡ recordsOf w s x
@@ -146,12 +150,12 @@ module _ (z : Station) (w v : List ℕ) (l : headCount ≤ length w) (e : v ≡ 
       λ i. zipWith given (zipWith (recordOf (same i)) (runs recordCount width (d i)) (sumRuns s)) (spreadRuns x)
 
   -- so that with them it is the station
-  put-back : (s x : List ℕ) → z .config .edition ≡ editionIn w → z .records ≡ recordsOf w s x → GoodConfiguration (z .config) → stateTime (z .state) < 2 ^ 32 → z .clock < 2 ^ 32 → stationOf v s x ≡ z
+  put-back : (s x : List ℕ) → z .config .edition ≡ editionIn w → z .records ≡ recordsOf w s x → GoodConfiguration (z .config) → Fits (z .config) (z .state) (z .clock) → stationOf v s x ≡ z
   unfolding stationOf
-  put-back s x f r g h k = packed s x (stationOf v s x) g h k (ap (withRecords (stationOf v s x)) (behind f s x ∙ sym r))
+  put-back s x f r g k = packed s x (stationOf v s x) g k (ap (withRecords (stationOf v s x)) (behind f s x ∙ sym r))
 
 -- another state stored, with the pilot state and the clock
 pub state-put : (w v s x : List ℕ) (o : Configuration) (st : State) (p : Pilot) (n : ℕ) → headCount ≤ length w → o ≡ configOf w → v ≡ sets w 0 (headOf o st p n)
-    → GoodConfiguration (stationOf w s x .config) → stateTime st < 2 ^ 32 → n < 2 ^ 32 → stationOf v s x ≡ inState st p n (stationOf w s x)
+    → GoodConfiguration (stationOf w s x .config) → Fits (stationOf w s x .config) st n → stationOf v s x ≡ inState st p n (stationOf w s x)
 unfolding stationOf
 state-put w v s x o st p n l c e = put-back (inState st p n (stationOf w s x)) w v l (e ∙ ap (λ (q : Configuration). sets w 0 (headOf q st p n)) c) s x refl refl

@@ -19,12 +19,12 @@ use Rattle.rules.specs.Constants.{askedTime, soundsPerTry, recordCount}
 use Rattle.rules.specs.Invariant.{Reportable, InPhase, TryFits, GroupsFit, GoodRecord, GoodConfiguration, Invariant}
 use Rattle.ends.specs.Lists.{All}
 use Rattle.rules.specs.Records.{isHeld}
-use Rattle.rules.specs.Rules.{isGood, freeRecord, configured}
-use Rattle.rules.proofs.InvariantKept.{configured-keeps}
+use Rattle.rules.specs.Rules.{mayReply, freeRecord, configured}
+use Rattle.rules.proofs.InvariantKept.{config-good, configured-keeps}
 use Rattle.rules.proofs.TryLaws.{sounding-lasts, some-sounds}
 use Rattle.ends.specs.Words.{timeWithin, runs}
 use Rattle.words.specs.Words.{editionIn, someOf, laterOf, countingOf, phasesOf, phaseOf, profilesOf, groupsOf, mostSum, sumsOf, recordOf, wordRuns, sumRuns, spreadRuns, given, recordsOf, configOf, stateOf, stationOf}
-use Rattle.rules.specs.Numbers.{pilotOf, editionOf}
+use Rattle.rules.specs.Numbers.{pilotOf}
 use Rattle.words.proofs.CopyLaws.{length-first, first-less, first-past}
 
 -- what holds of all of a list and of what stands past it
@@ -115,20 +115,8 @@ records-meant w s x = all-zip (editionIn w) (wordRuns w) (sumRuns s) (spreadRuns
 -- ---- the configuration and the station
 
 config-meant : (w : List ℕ) → GoodConfiguration (configOf w)
-unfolding configOf configured
-config-meant w =
-    let t = eqb (getD w 0 0) 1 in
-    let x = eqb (getD w 12 0) 1 in
-    let e = editionOf (getD w 13 0) in
-    let u = isGood (record { 0 = getD w 1 0 }) (record { 0 = getD w 2 0 }) (record { 0 = getD w 3 0 }) in
-    let k : GoodConfiguration (configured (record { 0 = getD w 1 0 }) (record { 0 = getD w 2 0 }) (record { 0 = getD w 3 0 }) (record { 0 = getD w 4 0; 1 = getD w 5 0 }) x e .config) =
-    configured-keeps (record { 0 = getD w 1 0 }) (record { 0 = getD w 2 0 }) (record { 0 = getD w 3 0 }) (record { 0 = getD w 4 0; 1 = getD w 5 0 }) x e .config in
-    record {
-      address = λ g. k .address (and-right t u g);
-      modem = λ g. k .modem (and-right t u g);
-      different = λ g. k .different (and-right t u g);
-      nid = λ g. k .nid (and-right t u g);
-    }
+unfolding configOf
+config-meant w = config-good _ (λ g. and-right (eqb (getD w 0 0) 1) (mayReply (record { 0 = getD w 1 0 }) (record { 0 = getD w 2 0 }) (record { 0 = getD w 3 0 })) g)
 
 pub meant : (w s x : List ℕ) → Invariant (stationOf w s x)
 unfolding stationOf
@@ -146,7 +134,7 @@ unpacked w s x z a b c d e =
 
 free-good : (e : Edition) → GoodRecord e freeRecord
 unfolding configured
-free-good e = configured-keeps (record { 0 = 0 }) (record { 0 = 0 }) (record { 0 = 0 }) (record { 0 = 0; 1 = 0 }) false e .records .0
+free-good e = configured-keeps (record { 0 = 0 }) (record { 0 = 0 }) (record { 0 = 0 }) (record { 0 = 0; 1 = 0 }) false e 0 .records .0
 
 -- past the last a free one
 pub at-meant : (w s x : List ℕ) (i : ℕ) → GoodRecord (editionIn w) (getD (recordsOf w s x) i freeRecord)

@@ -21,6 +21,7 @@ use Rattle.rules.specs.Constants.{soundsPerTry, recordCount}
 use Rattle.rules.specs.Invariant.{InPhase, TryFits, GroupsFit, GoodRecord}
 use Rattle.rules.specs.Numbers.{editionOf}
 use Rattle.rules.specs.Records.{isHeld, groupsIn}
+use Rattle.rules.specs.Validation.{validates, isValidating}
 use Rattle.ends.specs.Words.{runs}
 use Rattle.words.specs.Words.{headCount, width, wordCount, sumCount, spreadWidth, spreadCount, configOf, editionIn, laterOf, phaseOf, profilesOf, groupsOf, mostSum, onlyFirst, sumsOf, spreadOf, recordOf, wordRuns, sumRuns, spreadRuns, bySpread, given, recordsOf}
 use Rattle.ends.specs.Words.{flagOf}
@@ -86,6 +87,16 @@ module _ (w s x : List ℕ) (i : ℕ) (d : Record) (h : i < recordCount) where
   pub car-at : getD (recordsOf w s x) i d .car .0 ≡ getD w (place i + 1) 0
   unfolding recordOf
   car-at = rw (record-at w s x i d h, word-at w (place i) width 1 (omega arith))
+
+  pub phase-at : getD (recordsOf w s x) i d .phase ≡ phaseOf (editionIn w) (laterOf (editionIn w) (getD w (place i + 8) 0)) (getD w (place i + 3) 0) (getD w (place i + 4) 0) (getD w (place i + 5) 0)
+  unfolding recordOf
+  phase-at = rw (record-at w s x i d h, word-at w (place i) width 8 (omega arith), word-at w (place i) width 3 (omega arith), word-at w (place i) width 4 (omega arith), word-at w (place i) width 5 (omega arith))
+
+  -- whether it validates, by what is read of its words
+  pub validating-at : (e : Edition) (l held b : Bool) (p : Phase) → e ≡ editionIn w → l ≡ laterOf e (getD w (place i + 8) 0) → p ≡ phaseOf e l (getD w (place i + 3) 0) (getD w (place i + 4) 0) (getD w (place i + 5) 0)
+      → held ≡ isHeld (getD (recordsOf w s x) i d) → b ≡ validates p → held && b ≡ isValidating (getD (recordsOf w s x) i d)
+  unfolding isValidating
+  validating-at e l held b p ee el ep eh eb = ap₂ (λ (y z : Bool). y && z) eh (eb ∙ ap validates (rw (ep, el, ee) (sym phase-at)))
 
 -- ---- a record's own words, and back
 

@@ -11,11 +11,13 @@ use Rattle.rules.specs.declared.Record.{Record}
 use Rattle.rules.specs.Constants.{recordCount}
 use Rattle.rules.specs.Records.{sameCar, isHeld, holds}
 use Rattle.rules.specs.Rules.{freeRecord}
+use Rattle.rules.specs.Validation.{isValidating, anyValidates}
 use Rattle.ends.proofs.ListLaws.{drop-next, only-none, only-yes, only-no}
 use Rattle.records.specs.declared.find.Found.{Found}
 use Rattle.records.specs.declared.find.Found.the-variants.{Own, Nothing}
 use Rattle.records.specs.Places.{ownFrom, orFree, placeOf}
 use Rattle.records.proofs.PlaceLaws.{own-next, own-end, Searching, searching-start, searching-own, searching-next, searching-end}
+use Rattle.records.proofs.SeekLaws.{Sought, seek-here, seek-next, seek-end, validates-settles}
 use Rattle.words.specs.Words.{recordsOf, heldCount}
 use Rattle.words.proofs.RecordWords.{length-records}
 
@@ -86,6 +88,26 @@ module _ (c : CarAddress) (w : List ℕ) (i : ℕ) (free : Found) (k : Seeking c
     turns = omega arith;
     search = λ s x. searching-next c (recordsOf w s x) i free freeRecord (k .search s x) (inside s x) p (sym (holds-is s x) ∙ f) (q ∙ ap (orFree free i) (e s x));
   }
+
+-- ---- whether any is ready or counting
+
+-- before the record at i: none of those before it is
+pub record Unvalidated (w : List ℕ) (i : ℕ) : Type 0 where
+  pub turns : i ≤ recordCount
+  pub any : (s x : List ℕ) → Sought isValidating anyValidates true false validates-settles (recordsOf w s x) i
+
+pub unvalidated-start : (w : List ℕ) → Unvalidated w 0
+unvalidated-start w = record { turns = omega arith; any = λ s x. (omega arith, refl) }
+
+pub unvalidated-end : (w : List ℕ) (i : ℕ) → Unvalidated w i → recordCount ≤ i → (s x : List ℕ) → false ≡ anyValidates (recordsOf w s x)
+unvalidated-end w i k h s x = sym (seek-end isValidating anyValidates true false validates-settles (recordsOf w s x) i (k .any s x) (rw (length-records w s x) h))
+
+module _ (w : List ℕ) (i : ℕ) (k : Unvalidated w i) (h : i < recordCount) (b : Bool) (e : (s x : List ℕ) → b ≡ isValidating (at w s x i)) where
+  pub unvalidated-here : b ≡ true → (s x : List ℕ) → true ≡ anyValidates (recordsOf w s x)
+  unvalidated-here t s x = sym (seek-here isValidating anyValidates true false validates-settles (recordsOf w s x) i freeRecord (rw (length-records w s x) h) (k .any s x) (sym (e s x) ∙ t))
+
+  pub unvalidated-next : b ≡ false → Unvalidated w (i + 1)
+  unvalidated-next f = record { turns = omega arith; any = λ s x. seek-next isValidating anyValidates true false validates-settles (recordsOf w s x) i freeRecord (rw (length-records w s x) h) (k .any s x) (sym (e s x) ∙ f) }
 
 -- ---- how many are held
 

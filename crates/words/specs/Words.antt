@@ -23,14 +23,14 @@ use Rattle.ends.specs.Lists.{only}
 use Rattle.ends.specs.Words.{timeWithin, runs}
 use Rattle.rules.specs.Numbers.{pilotOf, editionOf}
 use Rattle.rules.specs.Records.{isHeld, groupsIn}
-use Rattle.rules.specs.Rules.{isGood}
+use Rattle.rules.specs.Rules.{mayReply}
 use Rattle.rules.specs.Stations.{shared, build}
 
 -- ---- the layout
 
--- how many words the head has: good, our address, the modem's, NID, NMK's two numbers, state, its time, its car, its run, pilot, clock, exempt, edition
+-- how many words the head has: good, our address, the modem's, NID, NMK's two numbers, state, its time, its car, its run, pilot, clock, exempt, edition, carriers
 abbrev pub headCount : ℕ
-headCount = 14
+headCount = 15
 
 -- how many words a record has: held, car, run, phase, its time, its retries or toggles, heard, profiles, whether a later try, group count
 abbrev pub width : ℕ
@@ -54,16 +54,17 @@ spreadCount = spreadWidth * recordCount
 
 -- ---- the head
 
--- the configuration: good only where it may be
+-- the configuration: good only where replies can be sent
 unfoldable pub configOf : List ℕ → Configuration
 configOf w = record {
-  good = eqb (getD w 0 0) 1 && isGood (record { 0 = getD w 1 0 }) (record { 0 = getD w 2 0 }) (record { 0 = getD w 3 0 });
+  good = eqb (getD w 0 0) 1 && mayReply (record { 0 = getD w 1 0 }) (record { 0 = getD w 2 0 }) (record { 0 = getD w 3 0 });
   address = record { 0 = getD w 1 0 };
   modem = record { 0 = getD w 2 0 };
   nid = record { 0 = getD w 3 0 };
   nmk = record { 0 = getD w 4 0; 1 = getD w 5 0 };
   exempt = eqb (getD w 12 0) 1;
   edition = editionOf (getD w 13 0);
+  carriers = getD w 14 0 % 2 ^ 32;
 }
 
 -- its edition
@@ -75,7 +76,7 @@ unfoldable pub stateBy : ℕ → ℕ → ℕ → ℕ → State
 stateBy k t car run =
     cond (eqb k 1) (Matching (t % 2 ^ 32))
     (cond (eqb k 2) (Joining (t % 2 ^ 32) (record { 0 = car }) (record { 0 = run }))
-    (cond (eqb k 3) Matched
+    (cond (eqb k 3) (Matched (record { 0 = car }))
     Unmatched))
 
 -- the state

@@ -1,5 +1,5 @@
 -- The words that are written for the parts of a station.
-use Prim.Native.Nat.{ℕ}
+use Prim.Native.Nat.{ℕ, _^_, _<_}
 use mathlib.Core.Bool.{Bool, true, false}
 use mathlib.Core.List.{List, [], _∷_, _++_}
 use Rattle.messages.specs.declared.Edition.{Edition}
@@ -14,6 +14,8 @@ use Rattle.rules.specs.declared.Spread.{Spread}
 use Rattle.rules.specs.declared.State.{State}
 use Rattle.rules.specs.declared.State.the-variants.{Unmatched, Matching, Joining, Matched}
 use Rattle.ends.specs.Words.{flagOf}
+use Rattle.rules.specs.Numbers.{stateNumber}
+use Rattle.rules.specs.Rules.{carIn}
 use Rattle.records.specs.Timers.{timeOf}
 
 -- the number of counting, by whether a toggle has begun
@@ -49,33 +51,19 @@ wordsOf r = flagOf (r .held) ∷ r .car .0 ∷ r .run .0 ∷ phaseNumber (r .pha
 abbrev pub spreadOctets : Spread → List ℕ
 spreadOctets x = x .least ++ x .greatest
 
--- the number of a state
-abbrev pub stateNumber : State → ℕ
-stateNumber Unmatched = 0
-stateNumber (Matching t) = 1
-stateNumber (Joining t c run) = 2
-stateNumber Matched = 3
-
 -- a state's time left
 abbrev pub stateTime : State → ℕ
 stateTime Unmatched = 0
 stateTime (Matching t) = t
 stateTime (Joining t c run) = t
-stateTime Matched = 0
+stateTime (Matched c) = 0
 
--- the car that joins
-abbrev pub stateCar : State → ℕ
-stateCar Unmatched = 0
-stateCar (Matching t) = 0
-stateCar (Joining t c run) = c .0
-stateCar Matched = 0
-
--- its run
+-- the run of the car that joins
 abbrev pub stateRun : State → ℕ
 stateRun Unmatched = 0
 stateRun (Matching t) = 0
 stateRun (Joining t c run) = run .0
-stateRun Matched = 0
+stateRun (Matched c) = 0
 
 -- the number of a pilot state
 abbrev pub pilotNumber : Pilot → ℕ
@@ -95,4 +83,8 @@ editionNumber Sae = 1
 unfoldable pub headOf : Configuration → State → Pilot → ℕ → List ℕ
 headOf o st p t =
     flagOf (o .good) ∷ o .address .0 ∷ o .modem .0 ∷ o .nid .0 ∷ o .nmk .0 ∷ o .nmk .1
-    ∷ stateNumber st ∷ stateTime st ∷ stateCar st ∷ stateRun st ∷ pilotNumber p ∷ t ∷ flagOf (o .exempt) ∷ editionNumber (o .edition) ∷ []
+    ∷ stateNumber st ∷ stateTime st ∷ carIn st .0 ∷ stateRun st ∷ pilotNumber p ∷ t ∷ flagOf (o .exempt) ∷ editionNumber (o .edition) ∷ o .carriers ∷ []
+
+-- a state's time, the clock and the carriers are numbers of 32 binary digits
+abbrev pub Fits : Configuration → State → ℕ → Type 0
+Fits o st t = (stateTime st < 2 ^ 32) × ((t < 2 ^ 32) × (o .carriers < 2 ^ 32))

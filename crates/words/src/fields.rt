@@ -19,7 +19,7 @@ ghost use mathlib.Core.Path.{_≡_};
 ghost use Prim.Native.Nat.{_*_, _^_, _%_, _<_, min};
 ghost use Rattle.rules.specs.Constants.{soundsPerTry};
 ghost use Rattle.words.specs.Words.{someOf, laterOf, countingOf, phaseOf, profilesOf, groupsOf, mostSum, stateBy};
-ghost use Rattle.words.specs.Written.{countingNumber, phaseNumber, phaseCount, stateTime, stateCar, stateRun, pilotNumber, editionNumber};
+ghost use Rattle.words.specs.Written.{countingNumber, phaseNumber, phaseCount, stateTime, stateRun, pilotNumber, editionNumber};
 
 // How many sets of sound counts there are: two to the number of sounds.
 const HEARD_SETS: u64 = 1024;
@@ -146,7 +146,7 @@ pub(crate) fn state(number: u64, left: u64, car: u64, run: u64) -> State
             car: CarAddress(car),
             run: RunId(run),
         },
-        3 => State::Matched,
+        3 => State::Matched(CarAddress(car)),
         _ => State::Unmatched,
     }
 }
@@ -211,27 +211,11 @@ pub(crate) fn state_time(state: State) -> u32
             car: _,
             run: _,
         } => left,
-        State::Matched => 0,
+        State::Matched(_) => 0,
     }
 }
 
-// The car that joins.
-pub(crate) fn state_car(state: State) -> u64
-    ensures { λ r. ⌜ r ≡ stateCar state ⌝ }
-{
-    match state {
-        State::Unmatched => 0,
-        State::Matching(_) => 0,
-        State::Joining {
-            left: _,
-            car,
-            run: _,
-        } => car.0,
-        State::Matched => 0,
-    }
-}
-
-// Its run.
+// The run of the car that joins.
 pub(crate) fn state_run(state: State) -> u64
     ensures { λ r. ⌜ r ≡ stateRun state ⌝ }
 {
@@ -243,7 +227,7 @@ pub(crate) fn state_run(state: State) -> u64
             car: _,
             run,
         } => run.0,
-        State::Matched => 0,
+        State::Matched(_) => 0,
     }
 }
 

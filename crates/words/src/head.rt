@@ -1,4 +1,4 @@
-// The head: the configuration, the state, the pilot state and the clock; whether validation is not required and the edition stand last.
+// The head: the configuration, the state, the pilot state and the clock; whether validation is not required, the edition and the carriers stand last.
 use crate::HEAD;
 use crate::fields;
 use messages::Edition;
@@ -10,11 +10,11 @@ use rules::Configuration;
 use rules::Pilot;
 use rules::State;
 ghost use mathlib.Core.Path.{_≡_};
-ghost use Prim.Native.Nat.{_^_, _<_, _≤_};
+ghost use Prim.Native.Nat.{_≤_};
 ghost use lib.ListN.{length};
 ghost use lib.Seq.{sets};
 ghost use Rattle.words.specs.Words.{headCount, configOf, editionIn, stateOf, pilotIn, clockIn};
-ghost use Rattle.words.specs.Written.{stateTime, headOf};
+ghost use Rattle.words.specs.Written.{headOf, Fits};
 
 // The configuration.
 pub(crate) fn config(words: &[u64]) -> Configuration
@@ -24,7 +24,7 @@ pub(crate) fn config(words: &[u64]) -> Configuration
     let address = words[1];
     let modem = words[2];
     let nid = words[3];
-    let good = rules::is_good(StationAddress(address), ModemAddress(modem), Nid(nid));
+    let good = rules::may_reply(StationAddress(address), ModemAddress(modem), Nid(nid));
     Configuration {
         good: (words[0] == 1) & good,
         address: StationAddress(address),
@@ -33,6 +33,7 @@ pub(crate) fn config(words: &[u64]) -> Configuration
         nmk: Nmk(words[4], words[5]),
         exempt: words[12] == 1,
         edition: rules::edition_of(words[13]),
+        carriers: ends::fields::low(words[14]),
     }
 }
 
@@ -70,22 +71,23 @@ pub(crate) fn clock(words: &[u64]) -> u32
 
 // The words of the head.
 fn head_words(config: Configuration, state: State, pilot: Pilot, clock: u32) -> [u64; HEAD]
-    ensures { λ r. ⌜ (r ≡ headOf config state pilot clock) × ((stateTime state < 2 ^ 32) × (clock < 2 ^ 32)) ⌝ }
+    ensures { λ r. ⌜ (r ≡ headOf config state pilot clock) × Fits config state clock ⌝ }
 {
     let address = config.address;
     let modem = config.modem;
     let nid = config.nid;
     let nmk = config.nmk;
     let good = ends::fields::flag(config.good);
-    let number = ends::fields::from32(crate::state_number(state));
+    let number = ends::fields::from32(rules::state_number(state));
     let left = ends::fields::from32(fields::state_time(state));
-    let car = fields::state_car(state);
+    let car = rules::car_in(state);
     let run = fields::state_run(state);
     let at = fields::pilot_number(pilot);
     let reading = ends::fields::from32(clock);
     let exempt = ends::fields::flag(config.exempt);
     let kind = config.edition;
     let edition = fields::edition_number(kind);
+    let carriers = ends::fields::from32(config.carriers);
     [
         good,
         address.0,
@@ -95,19 +97,20 @@ fn head_words(config: Configuration, state: State, pilot: Pilot, clock: u32) -> 
         nmk.1,
         number,
         left,
-        car,
+        car.0,
         run,
         at,
         reading,
         exempt,
         edition,
+        carriers,
     ]
 }
 
 // Stores the head.
 pub(crate) fn put(words: &mut [u64], config: Configuration, state: State, pilot: Pilot, clock: u32)
     requires { ⌜ headCount ≤ length (now words) ⌝ }
-    ensures { λ _. ⌜ (now (words .exit) ≡ sets (now (words .entry)) 0 (headOf config state pilot clock)) × ((stateTime state < 2 ^ 32) × (clock < 2 ^ 32)) ⌝ }
+    ensures { λ _. ⌜ (now (words .exit) ≡ sets (now (words .entry)) 0 (headOf config state pilot clock)) × Fits config state clock ⌝ }
 {
     let head = head_words(config, state, pilot, clock);
     ends::runs::put_words(&head, words, 0);

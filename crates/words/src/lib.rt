@@ -25,13 +25,13 @@ ghost use lib.ListN.{getD, set};
 ghost use Rattle.rules.specs.Invariant.{GoodRecord, Invariant};
 ghost use Rattle.rules.specs.Records.{freed};
 ghost use Rattle.rules.specs.Rules.{freeRecord};
+ghost use Rattle.rules.specs.Validation.{anyValidates};
 ghost use Rattle.records.specs.Places.{ownFrom, placeOf};
 ghost use Rattle.words.specs.Words.{configOf, editionIn, stateOf, pilotIn, clockIn, recordsOf, heldCount, stationOf, withRecords, inState};
-ghost use Rattle.words.specs.Written.{stateNumber};
 ghost use Rattle.words.specs.Wiped.{Wiped};
 
 // How many words the head has.
-pub const HEAD: usize = 14;
+pub const HEAD: usize = 15;
 
 // How many words a record has.
 pub const WIDTH: usize = 10;
@@ -106,6 +106,13 @@ pub fn find(words: &StationWords, car: CarAddress) -> Found
     search::find(words, car)
 }
 
+// Whether any record is ready or counting.
+pub fn any_validates(words: &StationWords) -> bool
+    ensures { λ b. ⌜ ((sums spread : List ℕ) → b ≡ anyValidates (recordsOf (now (words .entry)) sums spread)) ⌝ }
+{
+    search::any_validates(words)
+}
+
 // How many records are held.
 pub fn held_count(words: &StationWords) -> u32
     ensures { λ n. ⌜ ((sums spread : List ℕ) → n ≡ heldCount (recordsOf (now (words .entry)) sums spread)) ⌝ }
@@ -156,22 +163,6 @@ pub fn put_state(words: &mut StationWords, state: State, pilot: Pilot, clock: u3
     ensures { λ _. ⌜ ((sums spread : List ℕ) → stationOf (now (words .exit)) sums spread ≡ inState state pilot clock (stationOf (now (words .entry)) sums spread)) ⌝ }
 {
     whole::put_state(words, state, pilot, clock);
-}
-
-// The number of a state: 0 Unmatched, 1 Matching, 2 Joining, 3 Matched.
-pub fn state_number(state: State) -> u32
-    ensures { λ r. ⌜ r ≡ stateNumber state ⌝ }
-{
-    match state {
-        State::Unmatched => 0,
-        State::Matching(_) => 1,
-        State::Joining {
-            left: _,
-            car: _,
-            run: _,
-        } => 2,
-        State::Matched => 3,
-    }
 }
 
 // The station that the words, sums and spread mean: any do.

@@ -9,6 +9,7 @@ use messages::CarAddress;
 use messages::GROUPS;
 use messages::RunId;
 use records::timers;
+use records::validation;
 use rules::RECORDS;
 use rules::Record;
 use rules::tries;
@@ -20,6 +21,7 @@ ghost use Rattle.rules.specs.Constants.{recordCount};
 ghost use Rattle.rules.specs.Records.{isHeld};
 ghost use Rattle.rules.specs.Invariant.{GoodRecord};
 ghost use Rattle.rules.specs.Rules.{freeRecord};
+ghost use Rattle.rules.specs.Validation.{isValidating};
 ghost use Rattle.words.specs.Words.{wordCount, sumCount, spreadCount, editionIn, recordsOf, stationOf, withRecords};
 ghost use Rattle.words.specs.Written.{wordsOf};
 
@@ -38,6 +40,19 @@ pub(crate) fn car_at(words: &[u64], i: usize) -> CarAddress
     ensures { λ c. ⌜ ((sums spread : List ℕ) → c ≡ getD (recordsOf (now (words .entry)) sums spread) i freeRecord .car) ⌝ }
 {
     CarAddress(words[HEAD + WIDTH * i + 1])
+}
+
+// Whether the record at a place is held, and ready or counting.
+pub(crate) fn is_validating(words: &[u64], i: usize) -> bool
+    requires { ⌜ (i < recordCount) × (length (now words) ≡ wordCount) ⌝ }
+    ensures { λ b. ⌜ ((sums spread : List ℕ) → b ≡ isValidating (getD (recordsOf (now (words .entry)) sums spread) i freeRecord)) ⌝ }
+{
+    let edition = head::edition(words);
+    let at = HEAD + WIDTH * i;
+    let later = fields::later(edition, words[at + 8]);
+    let phase = fields::phase(edition, later, words[at + 3], words[at + 4], words[at + 5]);
+    let held = is_held(words, i);
+    held & validation::validates(phase)
 }
 
 // The record at a place.

@@ -1,4 +1,4 @@
-// The held records, by at most two words of each: nothing else is read.
+// The held records: a search reads at most two words of each, or those of its phase.
 use crate::one_record;
 use messages::CarAddress;
 use records::find;
@@ -11,6 +11,7 @@ ghost use lib.ListN.{length, getD};
 ghost use Rattle.rules.specs.Constants.{recordCount};
 ghost use Rattle.rules.specs.Records.{holds};
 ghost use Rattle.rules.specs.Rules.{freeRecord};
+ghost use Rattle.rules.specs.Validation.{anyValidates};
 ghost use Rattle.records.specs.Places.{ownFrom, placeOf};
 ghost use Rattle.words.specs.Words.{wordCount, recordsOf, heldCount};
 
@@ -65,6 +66,21 @@ pub(crate) fn find(words: &[u64], car: CarAddress) -> Found
         i = i + 1;
     };
     found
+}
+
+// Whether any record is ready or counting.
+pub(crate) fn any_validates(words: &[u64]) -> bool
+    requires { ⌜ length (now words) ≡ wordCount ⌝ }
+    ensures { λ b. ⌜ ((sums spread : List ℕ) → b ≡ anyValidates (recordsOf (now (words .entry)) sums spread)) ⌝ }
+{
+    let mut i: usize = 0;
+    while i < RECORDS {
+        if one_record::is_validating(words, i) {
+            return true;
+        }
+        i = i + 1;
+    }
+    false
 }
 
 // How many records are held.

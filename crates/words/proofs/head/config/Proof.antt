@@ -13,8 +13,8 @@ shared-slice-read-modem c = search needs
 shared-slice-read-nid : tie.Need-shared-slice-read-nid
 shared-slice-read-nid c = search needs
 
-is-good-requires : tie.Need-is-good-requires
-is-good-requires c κs = search needs
+may-reply-requires : tie.Need-may-reply-requires
+may-reply-requires c κs = search needs
 
 shared-slice-read-t7 : tie.Need-shared-slice-read-t7
 shared-slice-read-t7 c = search needs
@@ -34,9 +34,15 @@ shared-slice-read-edition-of c = search needs
 edition-of-requires : tie.Need-edition-of-requires
 edition-of-requires c κs = search needs
 
+shared-slice-read-low : tie.Need-shared-slice-read-low
+shared-slice-read-low c = search needs
+
+low-requires : tie.Need-low-requires
+low-requires c κs = search needs
+
 returns : tie.Need-returns
 unfolding configOf
-returns c = simp (c .before .before .before .before .before .before .is-good .ensures, c .edition-of .ensures)
+returns c = simp (c .before .before .before .before .before .before .before .before .may-reply .ensures, c .before .before .edition-of .ensures, c .low .ensures)
 
 pub config-spec : {M : Type 1} → statement M
 config-spec =
@@ -45,11 +51,13 @@ config-spec =
     shared-slice-read-address
     shared-slice-read-modem
     shared-slice-read-nid
-    is-good-requires
+    may-reply-requires
     shared-slice-read-t7
     shared-slice-read-t17
     shared-slice-read-t19
     shared-slice-read-t22
     shared-slice-read-edition-of
     edition-of-requires
+    shared-slice-read-low
+    low-requires
     returns)

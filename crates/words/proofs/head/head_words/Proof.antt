@@ -20,8 +20,8 @@ state-time-requires c κs = search needs
 from32-requires-2 : tie.Need-from32-requires-2
 from32-requires-2 c κs = search needs
 
-state-car-requires : tie.Need-state-car-requires
-state-car-requires c κs = search needs
+car-in-requires : tie.Need-car-in-requires
+car-in-requires c κs = search needs
 
 state-run-requires : tie.Need-state-run-requires
 state-run-requires c κs = search needs
@@ -38,11 +38,14 @@ flag-requires-2 c κs = search needs
 edition-number-requires : tie.Need-edition-number-requires
 edition-number-requires c κs = search needs
 
+from32-requires-4 : tie.Need-from32-requires-4
+from32-requires-4 c κs = search needs
+
 returns : tie.Need-returns
 unfolding headOf
 returns c = (
-  simp (c .before .before .before .before .before .before .before .before .before .before .flag .ensures, c .before .before .before .before .before .before .before .before .from32 .ensures .0, c .before .before .before .before .before .before .before .before .before .state-number .ensures, c .before .before .before .before .before .before .from322 .ensures .0, c .before .before .before .before .before .before .before .state-time .ensures, c .before .before .before .before .before .state-car .ensures, c .before .before .before .before .state-run .ensures, c .before .before .before .pilot-number .ensures, c .before .before .from323 .ensures .0, c .before .flag2 .ensures, c .edition-number .ensures),
-  (omega (arith, c .before .before .before .before .before .before .from322 .ensures .1, c .before .before .before .before .before .before .before .state-time .ensures), c .before .before .from323 .ensures .1),
+  simp (c .before .before .before .before .before .before .before .before .before .before .before .flag .ensures, c .before .before .before .before .before .before .before .before .before .from32 .ensures .0, c .before .before .before .before .before .before .before .before .before .before .state-number .ensures, c .before .before .before .before .before .before .before .from322 .ensures .0, c .before .before .before .before .before .before .before .before .state-time .ensures, c .before .before .before .before .before .before .car-in .ensures, c .before .before .before .before .before .state-run .ensures, c .before .before .before .before .pilot-number .ensures, c .before .before .before .from323 .ensures .0, c .before .before .flag2 .ensures, c .before .edition-number .ensures, c .from324 .ensures .0),
+  (omega (arith, c .before .before .before .before .before .before .before .from322 .ensures .1, c .before .before .before .before .before .before .before .before .state-time .ensures), (c .before .before .before .from323 .ensures .1, c .from324 .ensures .1)),
 )
 
 pub head-words-spec : {M : Type 1} → statement M
@@ -54,10 +57,11 @@ head-words-spec =
     from32-requires
     state-time-requires
     from32-requires-2
-    state-car-requires
+    car-in-requires
     state-run-requires
     pilot-number-requires
     from32-requires-3
     flag-requires-2
     edition-number-requires
+    from32-requires-4
     returns)

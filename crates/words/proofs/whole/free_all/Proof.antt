@@ -3,7 +3,6 @@ use Prim.Native.Nat.{_-_}
 use Rattle.rules.specs.Constants.{recordCount}
 use Rattle.words.proofs.FreeLaws.{FreedSo, freed-start, freed-next, freed-end}
 use borrow.Author.Needs.{needs}
-use native.Mathlib.Omega.{arith}
 use Rattle.words.proofs.whole.free_all.Statement.{statement}
 use Rattle.words.proofs.whole.free_all.Tie as tie
 

@@ -26,7 +26,7 @@ returns : tie.Need-returns
 returns c =
     let s = c .before .before .before .before .before .before .before .before .before .before .before .before .before .before .before .before .before .before .before in
     let put = c .before .before .before .before .before .before .before .before .before .before .before .before .put .ensures in
-    packed (s .args .station) (s .args .words .now) _ (omega arith) (put .0) (s .args .sums .now) (s .args .spread .now) _ (s .pre .0 .config) (put .1 .0) (put .1 .1) (c .before .before .before .before .before .before .store-all .ensures)
+    packed (s .args .station) (s .args .words .now) _ (omega arith) (put .0) (s .args .sums .now) (s .args .spread .now) _ (s .pre .0 .config) (put .1) (c .before .before .before .before .before .before .store-all .ensures)
 
 pub pack-spec : {M : Type 1} → statement M
 pack-spec =
