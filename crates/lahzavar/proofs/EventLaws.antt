@@ -24,14 +24,14 @@ use Rattle.rules.specs.declared.State.the-variants.{Unmatched, Matching, Joinin
 use Rattle.rules.specs.declared.Station.{Station}
 use Rattle.rules.specs.Calls.{Call, pilot, terminate, linkUp}
 use Rattle.rules.specs.Constants.{admissionTime}
-use Rattle.rules.specs.Events.{plugged, lost, ended, pilotDone}
+use Rattle.rules.specs.Events.{plugged, lost, pilotDone}
 use Rattle.rules.specs.Records.{freed}
 use Rattle.rules.specs.Rules.{rule, sharedStep, takesPilot, step, outcome}
-use Rattle.rules.specs.Stations.{Shared, Done, shared, inner, build, done}
+use Rattle.rules.specs.Stations.{Shared, Done, shared, inner, build}
 use Rattle.rules.specs.Validation.{turn}
 use Rattle.rules.proofs.Refusals.{refused-station, refused-output, bad-refuses}
 use Rattle.rules.proofs.State.{the-type}
-use Rattle.station.specs.Steps.{sharedAs, anew}
+use Rattle.station.specs.Steps.{sharedAs}
 use Rattle.station.proofs.EventLaws.{pilot-shared, pilot-rule, terminate-rule, link-joining, link-elsewhere, same-shared}
 use Rattle.words.specs.Words.{configOf, stateOf, pilotIn, clockIn, recordsOf, stationOf, withRecords, inState}
 use Rattle.lahzavar.specs.declared.Answered.{Answered}
@@ -97,13 +97,13 @@ module _ (w v : List ℕ) (o : Configuration) (r : Answered) (eo : o ≡ configO
 
   module _ (st : State) (es : st ≡ stateOf w) where
     -- link up in Joining
-    pub links : (l : ℕ) (c : CarAddress) (run : RunId) (p : Pilot) (n : ℕ) → st ≡ Joining l c run → p ≡ pilotIn w → n ≡ clockIn w → ((s z : List ℕ) → stationOf v s z ≡ inState Matched p n (stationOf w s z)) → r ≡ silent LinkEstablished
+    pub links : (l : ℕ) (c : CarAddress) (run : RunId) (p : Pilot) (n : ℕ) → st ≡ Joining l c run → p ≡ pilotIn w → n ≡ clockIn w → ((s z : List ℕ) → stationOf v s z ≡ inState (Matched c) p n (stationOf w s z)) → r ≡ silent LinkEstablished
         → InWords linkUp w v r
     unfolding stationOf splice joins
     links l c run p n e ep en b q s z =
         accepted-lent w s z linkUp r v s z _ _ (same-shared (shared (stationOf w s z)) .1) (link-joining (stationOf w s z) (good s z) l c run (sym es ∙ e))
         (record {
-          station = b s z ∙ ap₂ (λ (a : Pilot) (k : ℕ). inState Matched a k (stationOf w s z)) ep en;
+          station = b s z ∙ ap₂ (λ (a : Pilot) (k : ℕ). inState (Matched c) a k (stationOf w s z)) ep en;
           answer = q;
           octets = refl;
           kept = λ h. absurd (h (ap (λ (k : Answered). k .refusal) q));

@@ -12,7 +12,7 @@ use Rattle.messages.specs.declared.Refusal.{Refusal}
 use Rattle.messages.specs.declared.RunId.{RunId}
 use Rattle.messages.specs.Answers.{numberOf}
 use Rattle.octets.specs.Octets.{Octets, splice}
-use Rattle.messages.specs.Reading.{Checked, no, yes, Beside, besideOf, readRules}
+use Rattle.messages.specs.Reading.{Checked, no, yes, besideOf, readRules}
 use Rattle.rules.specs.declared.Configuration.{Configuration}
 use Rattle.ends.specs.declared.Indication.the-variants.{Nothing}
 use Rattle.rules.specs.declared.Record.{Record}
@@ -35,6 +35,7 @@ use Rattle.rules.specs.Records.{fresh}
 use Rattle.rules.specs.Replies.{parmCnf}
 use Rattle.rules.specs.Rules.{rule, sharedStep, step, outcome}
 use Rattle.rules.specs.Stations.{Done, shared, inner}
+use Rattle.rules.specs.Validation.{firstResult}
 use Rattle.rules.proofs.State.{the-type}
 use Rattle.records.specs.declared.find.Found.{Found}
 use Rattle.records.specs.declared.find.Found.the-variants.{Own}
@@ -44,15 +45,14 @@ use Rattle.records.proofs.PlaceLaws.{own-found, own-missing}
 use Rattle.receiving.specs.declared.admission.Admission.{Admission}
 use Rattle.receiving.specs.declared.judge.Judged.{Judged}
 use Rattle.receiving.specs.declared.judge.Judged.the-variants as judged
-use Rattle.receiving.specs.declared.judge.OwnMessage.{OwnMessage}
 use Rattle.receiving.specs.declared.judge.Request as code
-use Rattle.receiving.specs.AtRecord.{laterAt, admissionRule, admissionOf, ownRule}
+use Rattle.receiving.specs.AtRecord.{laterAt, admissionRule, admissionOf}
 use Rattle.station.specs.Frames.{Ready, settled}
-use Rattle.receiving.specs.Judge.{Asking, ownMessageOf, requestOf, judgedOf, judgeRule}
+use Rattle.receiving.specs.Judge.{Asking, requestOf, judgedOf, judgeRule}
 use Rattle.station.proofs.ComesLaws.{state-other}
-use Rattle.station.proofs.OwnLaws.{change-own, own-none, own-settled}
+use Rattle.station.proofs.OwnLaws.{AtOwn, own-none, own-settled}
 use Rattle.station.proofs.ParmLaws.{parm-answered}
-use Rattle.receiving.proofs.JudgeLaws.{taken, frame-judged, judges, judged-octets}
+use Rattle.receiving.proofs.JudgeLaws.{taken, decided, decided-taken, frame-decided, judges, judged-octets}
 use Rattle.words.specs.Words.{configOf, editionIn, stateOf, recordsOf, stationOf, withRecords}
 use Rattle.words.proofs.Meant.{meant}
 use Rattle.lahzavar.specs.declared.Answered.{Answered}
@@ -121,44 +121,58 @@ module _ (w s z : List ℕ) (c : CarAddress) where
           ∙ ap₂ (λ (y : Admission) (b : Bool). andThen (admissionOf y) (λ (i : ℕ). settled (stationOf w s z) i c (keeps (fresh b c run) (parmCnf b run ∷ [])))) ek (sym el)
 
     module _ (a : ℕ) (t : st ≡ Matching a) (p : Found) (ep : (u h : List ℕ) → p ≡ ownFrom c 0 (recordsOf w u h)) where
-      module _ (m : OwnMessage) (b : Beside) where
+      module _ (m : RecordMessage) (f : Record → Checked Kept) (at : AtOwn (editionIn w) c m (firstResult (configOf w .exempt) (recordsOf w s z)) f) where
         -- 11 where the car holds no record
-        pub takes-missing : OneOf (1 ∷ 2 ∷ []) (tagOf places.the-type p) → ruleOf (forRecord (ownMessageOf m b)) ≡ no 11
+        pub takes-missing : OneOf (1 ∷ 2 ∷ []) (tagOf places.the-type p) → ruleOf (forRecord m) ≡ no 11
         unfolding stationOf
-        takes-missing o = own-none (stationOf w s z) c (ownMessageOf m b) (ownRule (editionIn w) m b) (change-own (editionIn w) c m b _) a (sym es ∙ t) (own-missing c (recordsOf w s z) p (ep s z) o)
+        takes-missing o = own-none (stationOf w s z) c m f at a (sym es ∙ t) (own-missing c (recordsOf w s z) p (ep s z) o)
 
         -- a message at the car's own record
-        pub takes-own : (i : ℕ) (d r : Record) (x : Checked Kept) → p ≡ Own i → r ≡ getD (recordsOf w s z) i d → x ≡ ownRule (editionIn w) m b r → settled (stationOf w s z) i c x ≡ ruleOf (forRecord (ownMessageOf m b))
+        pub takes-own : (i : ℕ) (d r : Record) (x : Checked Kept) → p ≡ Own i → r ≡ getD (recordsOf w s z) i d → x ≡ f r → settled (stationOf w s z) i c x ≡ ruleOf (forRecord m)
         unfolding stationOf
-        takes-own i d r x e er ex = own-settled (stationOf w s z) c (ownMessageOf m b) (ownRule (editionIn w) m b) (change-own (editionIn w) c m b _) i d x (a, sym es ∙ t) (own-found c (recordsOf w s z) p i (ep s z) e) (ex ∙ ap (ownRule (editionIn w) m b) er)
+        takes-own i d r x e er ex = own-settled (stationOf w s z) c m f at i d x (a, sym es ∙ t) (own-found c (recordsOf w s z) p i (ep s z) e) (ex ∙ ap f er)
 
 -- ---- the call
 
-module _ (w s z octets out : List ℕ) (o : Configuration) (st : State) (j : Judged) (eo : o ≡ configOf w) (es : st ≡ stateOf w)
-    (ej : judgedOf j (besideOf (readRules (o .edition) octets)) ≡ judgeRule o st (length out) octets) where
-  -- what judging gives of the station of the words
-  judged-here : (k : Judged) → j ≡ k → judgeRule (stationOf w s z .config) (stationOf w s z .state) (length out) octets ≡ judgedOf k (besideOf (readRules (editionIn w) octets))
-  unfolding stationOf
-  judged-here k t =
-      sym (ap₂ (λ (p : Configuration) (q : State). judgeRule p q (length out) octets) eo es)
+-- the promise, from what the rule comes to
+pub ruled-lent : (w s z octets out exit v t y : List ℕ) (r : Answered) (x : Checked Done) → rule (shared (stationOf w s z)) (inner (stationOf w s z)) (calls.frame octets (length out)) ≡ x
+    → Comes x w s z out exit v t y r → Lent (calls.frame octets (length out)) w s z out exit v t y r
+unfolding step outcome sharedStep
+ruled-lent w s z octets out exit v t y r x e h = comes-as x (rule (shared (stationOf w s z)) (inner (stationOf w s z)) (calls.frame octets (length out))) w s z out exit v t y r (sym e) h
+
+module _ (w s z octets out : List ℕ) (o : Configuration) (j : Judged) (eo : o ≡ configOf w)
+    (ej : judgedOf j (besideOf (readRules (o .edition) octets)) ≡ judgeRule o (length out) octets) where
+  -- what judging gives of the configuration of the words
+  judged-words : (k : Judged) → j ≡ k → judgeRule (configOf w) (length out) octets ≡ judgedOf k (besideOf (readRules (editionIn w) octets))
+  judged-words k t =
+      sym (ap (λ (p : Configuration). judgeRule p (length out) octets) eo)
       ∙ sym ej
       ∙ ap₂ (λ (x : Judged) (p : Configuration). judgedOf x (besideOf (readRules (p .edition) octets))) t eo
 
-  -- the promise, from what the rule of the judged request comes to
-  pub frame-lent : (k : Judged) (exit v t y : List ℕ) (r : Answered) → j ≡ k → Comes (andThen (judgedOf k (besideOf (readRules (editionIn w) octets))) (taken (stationOf w s z))) w s z out exit v t y r
-      → Lent (calls.frame octets (length out)) w s z out exit v t y r
-  unfolding step outcome sharedStep
-  frame-lent k exit v t y r e h =
-      comes-as _ (rule (shared (stationOf w s z)) (inner (stationOf w s z)) (calls.frame octets (length out))) w s z out exit v t y r
-      (sym (frame-judged (stationOf w s z) octets (length out) ∙ ap (λ (x : Checked Asking). andThen x (taken (stationOf w s z))) (judged-here k e))) h
+  -- a refusal
+  pub frame-unread : (x : Refusal) → j ≡ judged.Refused x → judgeRule (configOf w) (length out) octets ≡ no (numberOf x)
+  frame-unread x t = judged-words (judged.Refused x) t
 
-  -- a reply to the car of a request can be sent
-  pub frame-ready : (c : CarAddress) (m : code.Request) → j ≡ judged.Taken c m → Ready (stationOf w s z) c out
-  frame-ready c m t =
-      let shown = judges (stationOf w s z .config) (stationOf w s z .state) (length out) octets _ (judged-here (judged.Taken c m) t) in
-      record { good = shown .good; kept = meant w s z; car = shown .car; room = shown .room }
+  module _ (c : CarAddress) (m : code.Request) (t : j ≡ judged.Taken c m) where
+    -- the request
+    abbrev asked : Asking
+    asked = record { car = c; request = requestOf m (besideOf (readRules (editionIn w) octets)) }
 
-  -- and it is one that octets can ask for
-  pub frame-octets : (c : CarAddress) (m : code.Request) → j ≡ judged.Taken c m → Octets octets → OctetRequest (editionIn w) (requestOf m (besideOf (readRules (editionIn w) octets)))
-  unfolding stationOf
-  frame-octets c m t h = judged-octets (stationOf w s z .config) (stationOf w s z .state) (length out) octets _ h (judged-here (judged.Taken c m) t)
+    decided-here : decided (stationOf w s z .config) (length out) octets ≡ yes asked
+    unfolding stationOf
+    decided-here = decided-taken (configOf w) (length out) octets asked (judged-words (judged.Taken c m) t)
+
+    -- the promise, from what its rule comes to
+    pub frame-lent : (exit v u y : List ℕ) (r : Answered) → Comes (taken (stationOf w s z) asked) w s z out exit v u y r → Lent (calls.frame octets (length out)) w s z out exit v u y r
+    frame-lent exit v u y r h = ruled-lent w s z octets out exit v u y r _ (frame-decided (stationOf w s z) octets (length out) (yes asked) decided-here) h
+
+    -- a reply to its car can be sent
+    pub frame-ready : Ready (stationOf w s z) c out
+    frame-ready =
+        let shown = judges (stationOf w s z .config) (length out) octets asked decided-here in
+        record { good = shown .good; kept = meant w s z; car = shown .car; room = shown .room }
+
+    -- and it is one that octets can ask for
+    pub frame-octets : Octets octets → OctetRequest (editionIn w) (asked .request)
+    unfolding stationOf
+    frame-octets h = judged-octets (stationOf w s z .config) (length out) octets asked h decided-here

@@ -1,6 +1,6 @@
 -- What a call on a lent station promises, from the call by value and what was stored of it.
 use Prim.Native.Nat.{ℕ, _<_, _≤_}
-use mathlib.Core.Path.{_≡_, refl, sym, ap, ap₂, _∙_, subst}
+use mathlib.Core.Path.{_≡_, refl, sym, ap, _∙_, subst}
 use mathlib.Core.Bool.{Bool, true, false}
 use mathlib.Core.List.{List, []}
 use lib.Dec.{eqb}
@@ -93,12 +93,12 @@ module _ (n reading : ℕ) (w s z : List ℕ) (r : Answered) where
 
 -- ---- configuring
 
-pub configured-lent : (a : StationAddress) (m : ModemAddress) (nid : Nid) (nmk : Nmk) (exempt : Bool) (e : Edition) (k : Configured) (v t y : List ℕ) (r : Answered)
-    → rules.Configures a m nid nmk exempt e k → stationOf v t y ≡ k .station → r ≡ saidOf (answerOf (k .answer)) → Configures a m nid nmk exempt e v t y r
-configured-lent a m nid nmk exempt e k v t y r c p q = record { station = p ∙ c .station; answer = q ∙ ap saidOf (c .answer) }
+pub configured-lent : (a : StationAddress) (m : ModemAddress) (nid : Nid) (nmk : Nmk) (exempt : Bool) (e : Edition) (carriers : ℕ) (k : Configured) (v t y : List ℕ) (r : Answered)
+    → rules.Configures a m nid nmk exempt e carriers k → stationOf v t y ≡ k .station → r ≡ saidOf (answerOf (k .answer)) → Configures a m nid nmk exempt e carriers v t y r
+configured-lent a m nid nmk exempt e carriers k v t y r c p q = record { station = p ∙ c .station; answer = q ∙ ap saidOf (c .answer) }
 
 -- the same with our address and the edition in other words
-pub configures-as : (a b : ℕ) (m : ModemAddress) (nid : Nid) (nmk : Nmk) (exempt : Bool) (e f : Edition) (v t y : List ℕ) (r : Answered) → a ≡ b → e ≡ f
-    → Configures (record { 0 = a }) m nid nmk exempt e v t y r → Configures (record { 0 = b }) m nid nmk exempt f v t y r
-configures-as a b m nid nmk exempt e f v t y r p q h =
-    subst (λ (x : ℕ). Configures (record { 0 = x }) m nid nmk exempt f v t y r) p (subst (λ (x : Edition). Configures (record { 0 = a }) m nid nmk exempt x v t y r) q h)
+pub configures-as : (a b : ℕ) (m : ModemAddress) (nid : Nid) (nmk : Nmk) (exempt : Bool) (e f : Edition) (carriers : ℕ) (v t y : List ℕ) (r : Answered) → a ≡ b → e ≡ f
+    → Configures (record { 0 = a }) m nid nmk exempt e carriers v t y r → Configures (record { 0 = b }) m nid nmk exempt f carriers v t y r
+configures-as a b m nid nmk exempt e f carriers v t y r p q h =
+    subst (λ (x : ℕ). Configures (record { 0 = x }) m nid nmk exempt f carriers v t y r) p (subst (λ (x : Edition). Configures (record { 0 = a }) m nid nmk exempt x carriers v t y r) q h)

@@ -3,5 +3,7 @@ pub mod OctetsFit
 pub mod FrameLaws
 pub mod EventLaws
 pub mod MatchLaws
+pub mod MapLaws
+pub mod CountsFit
 pub mod CarLaws
 pub mod TellLaws

@@ -1,6 +1,6 @@
 -- MATCH.REQ on lent words, by the tests that the code makes.
 use Prim.Native.Nat.{ℕ, _^_, _<_}
-use mathlib.Core.Path.{_≡_, refl, sym, ap, ap₂, subst, _∙_}
+use mathlib.Core.Path.{_≡_, sym, ap, ap₂, subst, _∙_}
 use mathlib.Core.Bool.{true, false, _&&_}
 use mathlib.Core.List.{List, [], _∷_, map}
 use denote.Enum.Declared.{tagOf}
@@ -16,7 +16,6 @@ use Rattle.octets.specs.Octets.{splice}
 use Rattle.ends.specs.declared.Answer.{Answer}
 use Rattle.ends.specs.declared.Indication.the-variants.{Nothing}
 use Rattle.ends.specs.Answers.{answerOf, summary}
-use Rattle.ends.specs.Constants.{joiningTime}
 use Rattle.ends.specs.Outcomes.{Outcome, framesOf, joined}
 use Rattle.ends.specs.Sending.{sending, Sends, Writable}
 use Rattle.ends.proofs.SendLaws.{sends-writable}
@@ -25,12 +24,11 @@ use Rattle.rules.specs.declared.Pilot.{Pilot}
 use Rattle.rules.specs.declared.Record.{Record}
 use Rattle.rules.specs.declared.State.{State}
 use Rattle.rules.specs.declared.State.the-variants.{Matching, Joining}
-use Rattle.rules.specs.declared.Station.{Station}
 use Rattle.rules.specs.Frames.{matchRule, confirmed, stateRule}
-use Rattle.rules.specs.FromOctets.{IsId}
+use Rattle.rules.specs.FromOctets.{OctetRequest}
 use Rattle.rules.specs.Received.{matchReq}
 use Rattle.rules.specs.Records.{freed}
-use Rattle.rules.specs.Replies.{matchCnf, messageTo, framesTo}
+use Rattle.rules.specs.Replies.{messageTo, framesTo}
 use Rattle.rules.specs.Stations.{Done, shared, build, done}
 use Rattle.rules.proofs.State.{the-type}
 use Rattle.records.specs.declared.find.Found.{Found}
@@ -45,6 +43,7 @@ use Rattle.words.specs.Words.{configOf, editionIn, stateOf, pilotIn, clockIn, r
 use Rattle.lahzavar.specs.declared.Answered.{Answered}
 use Rattle.lahzavar.specs.Answers.{saidOf}
 use Rattle.lahzavar.specs.Frames.{Comes, Replies}
+use Rattle.lahzavar.specs.Matching.{firstId, secondId, asking, confirming}
 
 -- ---- MATCH.CNF
 
@@ -55,13 +54,13 @@ replied m k entry exit a r e h sends q =
     (q ∙ ap saidOf (sends .answer ∙ ap summary sent), sends .octets ∙ ap (λ (u : Outcome). splice 0 (joined (framesOf u)) entry) sent)
 
 -- it can be written, with the configuration of the words
-pub confirmable : (w s z out : List ℕ) (c : CarAddress) (run : RunId) (a b : List ℕ) (o : Configuration) → o ≡ configOf w → Ready (stationOf w s z) c out → IsId (editionIn w) a → IsId (editionIn w) b
-    → run .0 < 2 ^ 64 → (o .nmk .0 < 2 ^ 64) × (o .nmk .1 < 2 ^ 64) → Writable (messageTo o c (matchCnf run a b)) (length out)
+pub confirmable : (w s z f out : List ℕ) (c : CarAddress) (run : RunId) (o : Configuration) → o ≡ configOf w → Ready (stationOf w s z) c out → OctetRequest (editionIn w) (asking (editionIn w) run f)
+    → run .0 < 2 ^ 64 → (o .nmk .0 < 2 ^ 64) × (o .nmk .1 < 2 ^ 64) → Writable (messageTo o c (confirming (o .edition) run f)) (length out)
 unfolding stationOf
-confirmable w s z out c run a b o e q ia ib u k =
+confirmable w s z f out c run o e q i u k =
     let key : (configOf w .nmk .0 < 2 ^ 64) × (configOf w .nmk .1 < 2 ^ 64) = subst (λ (x : Configuration). (x .nmk .0 < 2 ^ 64) × (x .nmk .1 < 2 ^ 64)) e k in
-    subst (λ (x : Configuration). Writable (messageTo x c (matchCnf run a b)) (length out)) (sym e)
-    (match-cnf-writable (configOf w) c (length out) (q .kept .config .address (q .good)) (q .car) run a b ia ib u (q .kept .config .nid (q .good)) (key .0) (key .1) (q .room))
+    subst (λ (x : Configuration). Writable (messageTo x c (confirming (x .edition) run f)) (length out)) (sym e)
+    (match-cnf-writable (configOf w) c (length out) (q .kept .config .address (q .good)) (q .car) run _ _ (i .0) (i .1) u (q .kept .config .nid (q .good)) (key .0) (key .1) (q .room))
 
 -- ---- what a state and some records come to, with a reply
 
@@ -70,23 +69,27 @@ module _ (w s z entry exit v : List ℕ) (r : Answered) where
       → Comes (yes (done st rs fs Nothing)) w s z entry exit v s z r
   comes-replied st rs fs e q = record { station = e; answer = q .0; octets = q .1; kept = λ h. absurd (h (ap (λ (a : Answered). a .refusal) (q .0))) }
 
-  module _ (c : CarAddress) (run : RunId) (a b : List ℕ) (o : Configuration) (eo : o ≡ configOf w) (q : Replies (framesTo o c (matchCnf run a b ∷ [])) entry exit r) where
+  module _ (c : CarAddress) (run : RunId) (f : List ℕ) (o : Configuration) (eo : o ≡ configOf w) (q : Replies (framesTo o c (confirming (o .edition) run f ∷ [])) entry exit r) where
     -- the replies of the station of the words
-    here : Replies (framesTo (stationOf w s z .config) c (matchCnf run a b ∷ [])) entry exit r
+    here : Replies (framesTo (stationOf w s z .config) c (confirming (editionIn w) run f ∷ [])) entry exit r
     unfolding stationOf
-    here = subst (λ (x : Configuration). Replies (framesTo x c (matchCnf run a b ∷ [])) entry exit r) eo q
+    here = subst (λ (x : Configuration). Replies (framesTo x c (confirming (x .edition) run f ∷ [])) entry exit r) eo q
+
+    -- what is confirmed in a state, with some records
+    abbrev given : State → List Record → Checked Done
+    given st rs = yes (confirmed (stationOf w s z .config) st rs c run (firstId (editionIn w) f) (secondId (editionIn w) f))
 
     -- every record freed, and another state stored
     pub comes-joined : (u : List ℕ) (st : State) (p : Pilot) (n : ℕ) → p ≡ pilotIn w → n ≡ clockIn w → ((x y : List ℕ) → stationOf u x y ≡ withRecords (stationOf w x y) (map freed (recordsOf w x y)))
-        → ((x y : List ℕ) → stationOf v x y ≡ inState st p n (stationOf u x y)) → Comes (yes (confirmed (stationOf w s z .config) st (map freed (stationOf w s z .records)) c run a b)) w s z entry exit v s z r
+        → ((x y : List ℕ) → stationOf v x y ≡ inState st p n (stationOf u x y)) → Comes (given st (map freed (stationOf w s z .records))) w s z entry exit v s z r
     unfolding stationOf
-    comes-joined u st p n ep en f g =
+    comes-joined u st p n ep en h g =
         comes-replied st (map freed (recordsOf w s z)) _
-        (g s z ∙ ap (inState st p n) (f s z) ∙ ap₂ (λ (x : Pilot) (k : ℕ). inState st x k (withRecords (stationOf w s z) (map freed (recordsOf w s z)))) ep en)
+        (g s z ∙ ap (inState st p n) (h s z) ∙ ap₂ (λ (x : Pilot) (k : ℕ). inState st x k (withRecords (stationOf w s z) (map freed (recordsOf w s z)))) ep en)
         here
 
     -- nothing stored
-    pub comes-again : v ≡ w → (st : State) → stateOf w ≡ st → Comes (yes (confirmed (stationOf w s z .config) st (stationOf w s z .records) c run a b)) w s z entry exit v s z r
+    pub comes-again : v ≡ w → (st : State) → stateOf w ≡ st → Comes (given st (stationOf w s z .records)) w s z entry exit v s z r
     unfolding stationOf
     comes-again e st es = comes-replied st (recordsOf w s z) _ (ap (λ (x : List ℕ). stationOf x s z) e ∙ ap (λ (x : State). inState x (pilotIn w) (clockIn w) (stationOf w s z)) es) here
 

@@ -31,9 +31,9 @@ use Rattle.rules.specs.Validation.{firstResult, turn}
 use Rattle.rules.specs.Frames.{Kept, Change, putBack, startRule, soundRule, profileRule, rspRule, firstRule, secondRule, atOwn, atRun, requested, parmRule, changeRule, matchRule, changed, confirmed, stateRule, admitted}
 use Rattle.ends.specs.Lists.{All, only, joins}
 use Rattle.ends.specs.Outcomes.{Outcome, framesOf, joined, andThen, outcomeOf}
-use Rattle.rules.specs.Received.{RecordMessage, parmReq, start, sound, profile, rsp, validateFirst, validateSecond, Request, forRecord, matchReq, Received, received}
+use Rattle.rules.specs.Received.{RecordMessage, parmReq, start, sound, profile, rsp, validateFirst, validateSecond, Request, forRecord, matchReq, mapReq, Received, received}
 use Rattle.rules.specs.Records.{sameCar, sameRun, isEmpty, isHeld, holds, mine, freePlaces, freed, groupsKept, counted}
-use Rattle.rules.specs.Replies.{Reply, parmCnf, matchCnf, report, confirmation, isReport, isConfirmation, mean, reportOf, messageTo, frameTo, framesTo}
+use Rattle.rules.specs.Replies.{Reply, parmCnf, matchCnf, report, confirmation, isReport, isConfirmation, mean, reportOf, messageTo, frameTo, framesTo, mapCnfTo}
 use Rattle.rules.specs.Rules.{rule, outcome}
 use Rattle.rules.specs.Stations.{Shared, Inner, shared, inner, Done}
 use Rattle.rules.specs.Ticks.{tickElapsed, windowEnds, tickPhase, repliesOf, tickFrames, framesOfAll, allFrames, admissionDone, joiningDone, tickDone}
@@ -42,7 +42,10 @@ use Rattle.ends.proofs.Logic.{split, OnYes, on-check}
 use Rattle.messages.proofs.FrameLaws.{slacMatchReq-ids, stands-read}
 use Rattle.messages.proofs.WriteLaws.{whole-none}
 use Rattle.rules.specs.FromOctets.{Holds}
-use Rattle.rules.proofs.RuleLaws.{on-own, on-run}
+use Rattle.rules.proofs.RuleLaws.{on-own, on-run, on-map}
+use Rattle.amplitude.specs.Writing as mapWriting
+use Rattle.amplitude.proofs.WriteLaws.{length-frame}
+use Rattle.receiving.specs.Maps as maps
 use Rattle.rules.proofs.PhaseLaws.{on-start, on-sound, on-profile, on-rsp, on-first, on-second}
 use Rattle.rules.proofs.ReceivedLaws.{admitted-values}
 use Rattle.rules.proofs.SpreadLaws.{merged-length}
@@ -253,6 +256,11 @@ any (yes x) = tt
 replies-little : (o : Configuration) (c : CarAddress) (ts : List Reply) → One ts → length (joined (framesTo o c ts)) ≤ leastOutput
 replies-little o c ts h = omega (arith, replies-short o c ts h)
 
+-- AMP_MAP.CNF has 60 octets
+map-little : (o : Configuration) (c : CarAddress) → length (joined (mapCnfTo o c ∷ [])) ≤ leastOutput
+unfolding mapCnfTo joins
+map-little o c = omega (arith, length-append (mapWriting.frame (maps.confirmation o c)) [], length-frame (maps.confirmation o c))
+
 state-little : (o : Configuration) (st : State) (rs : List Record) (c : CarAddress) (m : Request) → ShortRequest m → All Sums rs → OnYes Little (stateRule o st rs c m)
 unfolding stateRule
 state-little o Unmatched rs c m d g = tt
@@ -262,9 +270,13 @@ state-little o (Matching a) rs c (forRecord m) d g =
 state-little o (Matching a) rs c (matchReq run p q) d g =
     on-then (λ (x : Unit {0}). Unit {0}) Little (matchRule run (mine c rs)) (λ (x : Unit {0}). yes (confirmed o (Joining joiningTime c run) (map freed rs) c run p q))
     (any (matchRule run (mine c rs))) (λ x h. replies-little o c (matchCnf run p q ∷ []) d)
+state-little o (Matching a) rs c (mapReq n) d g = tt
 state-little o (Joining l u k) rs c (forRecord m) d g = tt
 state-little o (Joining l u k) rs c (matchReq run p q) d g = on-check Little (sameCar c u && sameRun run k) 11 (yes (confirmed o (Joining l u k) rs c run p q)) (λ e. replies-little o c (matchCnf run p q ∷ []) d)
-state-little o Matched rs c m d g = tt
+state-little o (Joining l u k) rs c (mapReq n) d g = tt
+state-little o (Matched u) rs c (forRecord m) d g = tt
+state-little o (Matched u) rs c (matchReq run p q) d g = tt
+state-little o (Matched u) rs c (mapReq n) d g = on-map Little o u rs c n (map-little o c)
 
 admission-little : (a : ℕ) (b : Bool) (rs : List Record) (fs : List (List ℕ)) → length (joined fs) ≤ leastOutput → Little (admissionDone a b rs fs)
 unfolding admissionDone
@@ -282,7 +294,7 @@ unfolding tickDone joins
 tick-little o b e Unmatched rs g n = omega arith
 tick-little o b e (Matching a) rs g n = admission-little _ _ _ _ (omega (arith, frames-short o b e rs g))
 tick-little o b e (Joining l c run) rs g n = joining-little _ _ c run rs
-tick-little o b e Matched rs g n = omega arith
+tick-little o b e (Matched c) rs g n = omega arith
 
 pilot-little : (a b : Bool) (w : Turn) (i : Inner) → Little (pilotDone a b w i)
 unfolding pilotDone joins
@@ -296,7 +308,7 @@ unfolding linkRule joins
 link-little Unmatched rs = tt
 link-little (Matching a) rs = tt
 link-little (Joining l c run) rs = omega arith
-link-little Matched rs = tt
+link-little (Matched c) rs = tt
 
 rule-little : (o : Shared) (i : Inner) (x : Call) → All Sums (i .records) → length (i .records) ≡ recordCount → OnYes Little (rule o i x)
 unfolding rule joins

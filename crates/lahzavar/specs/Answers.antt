@@ -9,10 +9,11 @@ use Rattle.rules.specs.Answers.{soundsIn}
 use Rattle.ends.specs.Answers.{indicationNumber, Summary, summary}
 use Rattle.lahzavar.specs.declared.Answered.{Answered}
 use Rattle.lahzavar.specs.declared.Heard.{Heard}
+use Rattle.lahzavar.specs.declared.Inspected.{Inspected}
 
--- 0.7.0: 65536 times the major number, 256 times the minor, and the patch
+-- 0.8.0: 65536 times the major number, 256 times the minor, and the patch
 abbrev pub version : ℕ
-version = 65536 * 0 + 256 * 7 + 0
+version = 65536 * 0 + 256 * 8 + 0
 
 -- a refusal's number and nothing else, or 0 with the numbers of what was sent; the octets' number has 32 binary digits, which hold all of it (`octets-exact`)
 abbrev pub saidOf : Checked Summary → Answered
@@ -27,6 +28,11 @@ answered o = saidOf (summary o)
 abbrev pub heardAs : Checked ℕ → Heard
 heardAs (no n) = record { refusal = n; sounds = 0 }
 heardAs (yes n) = record { refusal = 0; sounds = n }
+
+-- the answer of the inspection
+abbrev pub inspectedAs : Checked rules.Inspected → Inspected
+inspectedAs (no n) = record { refusal = n; state = 0; car = 0 }
+inspectedAs (yes x) = record { refusal = 0; state = x .state; car = x .car .0 }
 
 -- a lent array: filled with what the query tells, or left where it is refused
 abbrev pub filledBy : (rules.Told → List ℕ) → Checked rules.Told → List ℕ → List ℕ

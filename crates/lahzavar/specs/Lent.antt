@@ -63,6 +63,6 @@ abbrev pub ownAddress : ℕ → ℕ → ℕ
 ownAddress k address = cond (leb k 1) address 0
 
 -- the words, sums and spread afterwards mean the station that configuring gives, a refused one too
-pub record Configures (address : StationAddress) (modem : ModemAddress) (nid : Nid) (nmk : Nmk) (exempt : Bool) (edition : Edition) (v t y : List ℕ) (r : Answered) : Type 0 where
-  pub station : stationOf v t y ≡ configured address modem nid nmk exempt edition
-  pub answer : r ≡ answered (configuring address modem nid)
+pub record Configures (address : StationAddress) (modem : ModemAddress) (nid : Nid) (nmk : Nmk) (exempt : Bool) (edition : Edition) (carriers : ℕ) (v t y : List ℕ) (r : Answered) : Type 0 where
+  pub station : stationOf v t y ≡ configured address modem nid nmk exempt edition carriers
+  pub answer : r ≡ answered (configuring address modem nid carriers)

@@ -1,12 +1,14 @@
 // Answers as plain numbers.
 use crate::Answered;
 use crate::Heard;
+use crate::Inspected;
 use ends::Answer;
 use messages::GROUPS;
 use messages::GroupValues;
 use messages::Refusal;
 use rules::Configuration;
 use rules::HeardAnswer;
+use rules::Inspection;
 use rules::Queried;
 ghost use mathlib.Core.Path.{_≡_};
 ghost use Prim.Native.Nat.{_^_, _%_};
@@ -33,7 +35,7 @@ fn count(x: u8) -> u32
 }
 
 // The low 32 binary digits.
-fn low(x: usize) -> u32
+pub(crate) fn low(x: usize) -> u32
     ensures { λ r. ⌜ r ≡ x % 2 ^ 32 ⌝ }
 {
     (x % 4294967296) as u32
@@ -79,6 +81,24 @@ pub(crate) fn no_pilot(config: Configuration) -> Answered
         refused(Refusal::WrongState)
     } else {
         refused(Refusal::BadConfiguration)
+    }
+}
+
+// What the inspection answered.
+pub(crate) fn inspected(inspection: Inspection) -> Inspected
+    ensures { λ r. ⌜ r ≡ answers.inspectedAs (byValue.inspectedOf inspection) ⌝ }
+{
+    match inspection {
+        Inspection::Refused(refusal) => Inspected {
+            refusal: messages::refusal_number(refusal),
+            state: 0,
+            car: 0,
+        },
+        Inspection::At { state, car } => Inspected {
+            refusal: 0,
+            state: state,
+            car: car.0,
+        },
     }
 }
 

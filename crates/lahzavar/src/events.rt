@@ -70,7 +70,7 @@ pub(crate) fn link_up(words: &mut StationWords) -> Answered
     let state = words::state_of(words);
     let State::Joining {
         left: _,
-        car: _,
+        car,
         run: _,
     } = state
     else {
@@ -78,7 +78,7 @@ pub(crate) fn link_up(words: &mut StationWords) -> Answered
     };
     let pilot = words::pilot_of(words);
     let clock = words::clock_of(words);
-    words::put_state(words, State::Matched, pilot, clock);
+    words::put_state(words, State::Matched(car), pilot, clock);
     answers::answered(Answer::Done {
         frames: 0,
         octets: 0,

@@ -1,8 +1,9 @@
 // A frame, at one record in place.
 use crate::Answered;
 use crate::answers;
+use crate::maps;
 use crate::matching;
-use crate::storing;
+use crate::validating;
 use ends::Answer;
 use ends::Indication;
 use messages::CarAddress;
@@ -52,7 +53,7 @@ ghost use Rattle.lahzavar.specs.Frames.{Takes, Puts, Stores};
 ghost use Rattle.lahzavar.specs.Lent.{Lent};
 
 // A record stored at place i, and one frame sent.
-fn sent(
+pub(crate) fn sent(
     words: &mut StationWords,
     sums: &mut StationSums,
     spread: &mut StationSpread,
@@ -221,22 +222,7 @@ fn at_own(
     settle(words, sums, spread, i, car, kept, out)
 }
 
-// A frame on the whole station, by value.
-fn by_value(
-    words: &mut StationWords,
-    sums: &mut StationSums,
-    spread: &mut StationSpread,
-    octets: &[u8],
-    out: &mut [u8],
-) -> Answered
-    ensures { λ r. ⌜ Lent (calls.frame (now (octets .entry)) (length (now (out .entry)))) (now (words .entry)) (now (sums .entry)) (now (spread .entry)) (now (out .entry)) (now (out .exit)) (now (words .exit)) (now (sums .exit)) (now (spread .exit)) r ⌝ }
-{
-    let station = words::unpack(words, sums, spread);
-    let stepped = station::frame(station, octets, out);
-    storing::settle(words, sums, spread, stepped)
-}
-
-// A frame was received: PARM.REQ and what concerns the car's own run touch one record, MATCH.REQ a word of each; both VALIDATE.REQ, which are rare, go through the whole station.
+// A frame was received: each request touches its car's own record alone; the first VALIDATE.REQ looks at the phase of the others, MATCH.REQ frees them, and AMP_MAP.REQ touches none.
 pub(crate) fn receive(
     words: &mut StationWords,
     sums: &mut StationSums,
@@ -247,17 +233,16 @@ pub(crate) fn receive(
     ensures { λ r. ⌜ Lent (calls.frame (now (octets .entry)) (length (now (out .entry)))) (now (words .entry)) (now (sums .entry)) (now (spread .entry)) (now (out .entry)) (now (out .exit)) (now (words .exit)) (now (sums .exit)) (now (spread .exit)) r ⌝ }
 {
     let config = words::config_of(words);
-    let state = words::state_of(words);
-    let judged = judge::judge(config, state, octets, out.len());
+    let judged = judge::judge(config, octets, out.len());
     match judged {
-        Judged::Refused(refusal) => answers::refused(refusal),
+        Judged::Refused(refusal) => maps::unread(words, refusal, octets, out),
         Judged::Taken { car, request } => match request {
             Request::Parm(run) => parm_req(words, sums, spread, car, run, out),
             Request::Own(message) => at_own(words, sums, spread, car, message, octets, out),
             Request::Match(run) => {
                 matching::match_req(words, sums, spread, car, run, octets, out)
             }
-            _ => by_value(words, sums, spread, octets, out),
+            Request::ValidateFirst => { validating::validate_first(words, sums, spread, car, out) }
         },
     }
 }

@@ -3,8 +3,11 @@ mod answers;
 pub mod car_calls;
 mod events;
 mod frames;
+pub mod map_calls;
+mod maps;
 mod matching;
 mod storing;
+mod validating;
 
 use messages::CarAddress;
 use messages::GroupValues;
@@ -27,15 +30,14 @@ ghost use lib.ListN.{length};
 ghost use Rattle.rules.specs.Calls as calls;
 ghost use Rattle.rules.specs.Constants.{leastOutput};
 ghost use Rattle.rules.specs.Numbers.{editionOf};
-ghost use Rattle.rules.specs.Rules.{query};
-ghost use Rattle.words.specs.Words.{stateOf, recordsOf, heldCount, stationOf, wordCount, sumCount, spreadCount};
-ghost use Rattle.words.specs.Written.{stateNumber};
+ghost use Rattle.rules.specs.Rules.{query, inspection};
+ghost use Rattle.words.specs.Words.{configOf, stateOf, recordsOf, heldCount, stationOf, wordCount, sumCount, spreadCount};
 ghost use Rattle.words.specs.Wiped.{Wiped};
-ghost use Rattle.lahzavar.specs.Answers.{version, Tells};
+ghost use Rattle.lahzavar.specs.Answers.{version, Tells, inspectedAs};
 ghost use Rattle.lahzavar.specs.Lent.{Lent, PilotLent, ownAddress, Configures};
 
-// The version 0.7.0: 65536 times the major number, 256 times the minor, and the patch.
-const VERSION: u32 = 65536 * 0 + 256 * 7 + 0;
+// The version 0.8.0: 65536 times the major number, 256 times the minor, and the patch.
+const VERSION: u32 = 65536 * 0 + 256 * 8 + 0;
 
 // A call's answer: the refusal's number or 0; an indication (0 none, 1 no link, 2 link established); how many frames of how many octets in all.
 #[repr(C)]
@@ -53,6 +55,14 @@ pub struct Heard {
     pub sounds: u32,
 }
 
+// The inspection's answer: the refusal's number or 0, the state's number, and the car in Joining and Matched, else 0.
+#[repr(C)]
+pub struct Inspected {
+    pub refusal: u32,
+    pub state: u32,
+    pub car: u64,
+}
+
 // Our address, or none where the number names no edition, so that such a configuration is refused.
 fn own_address(edition: u32, address: u64) -> u64
     ensures { λ r. ⌜ r ≡ ownAddress edition address ⌝ }
@@ -60,7 +70,7 @@ fn own_address(edition: u32, address: u64) -> u64
     if edition <= 1 { address } else { 0 }
 }
 
-// Configures a station; validation is required where exempt is 0, the edition is 0 for ISO and 1 for SAE. A bad configuration is refused, and its station answers 16 to everything.
+// Configures a station; validation is required where exempt is 0, the edition is 0 for ISO and 1 for SAE, and our modem has so many carriers. A bad configuration is refused, and its station answers 16 to everything.
 #[no_mangle]
 pub extern "C" fn lahzavar_configure(
     words: &mut StationWords,
@@ -73,8 +83,9 @@ pub extern "C" fn lahzavar_configure(
     last: u64,
     exempt: u32,
     edition: u32,
+    carriers: u32,
 ) -> Answered
-    ensures { λ r. ⌜ Configures (record { 0 = ownAddress edition address }) (record { 0 = modem }) (record { 0 = nid }) (record { 0 = first; 1 = last }) (not (eqb exempt 0)) (editionOf edition) (now (words .exit)) (now (sums .exit)) (now (spread .exit)) r ⌝ }
+    ensures { λ r. ⌜ Configures (record { 0 = ownAddress edition address }) (record { 0 = modem }) (record { 0 = nid }) (record { 0 = first; 1 = last }) (not (eqb exempt 0)) (editionOf edition) carriers (now (words .exit)) (now (sums .exit)) (now (spread .exit)) r ⌝ }
 {
     storing::configure(
         words,
@@ -86,6 +97,7 @@ pub extern "C" fn lahzavar_configure(
         Nmk(first, last),
         exempt != 0,
         rules::edition_of(answers::wide(edition)),
+        carriers,
     )
 }
 
@@ -189,12 +201,12 @@ pub extern "C" fn lahzavar_query(
     answers::told(rules::query(station, CarAddress(car)), least, greatest)
 }
 
-// The state: 0 Unmatched, 1 Matching, 2 Joining, 3 Matched.
+// The inspection: the state, 0 Unmatched, 1 Matching, 2 Joining, 3 Matched, and the car in the last two.
 #[no_mangle]
-pub extern "C" fn lahzavar_state(words: &StationWords) -> u32
-    ensures { λ r. ⌜ r ≡ stateNumber (stateOf (now (words .entry))) ⌝ }
+pub extern "C" fn lahzavar_inspect(words: &StationWords) -> Inspected
+    ensures { λ r. ⌜ r ≡ inspectedAs (inspection (configOf (now (words .entry))) (stateOf (now (words .entry)))) ⌝ }
 {
-    words::state_number(words::state_of(words))
+    answers::inspected(rules::inspect(words::config_of(words), words::state_of(words)))
 }
 
 // How many records are held.

@@ -4,7 +4,6 @@ use crate::answers;
 use ends::Indication;
 use ends::JOINING_TIME;
 use messages::CarAddress;
-use messages::Ids;
 use messages::Refusal;
 use messages::RunId;
 use receiving::reply;
@@ -16,26 +15,31 @@ use rules::State;
 use words::StationSpread;
 use words::StationSums;
 use words::StationWords;
-ghost use mathlib.Core.Path.{_≡_};
 ghost use mathlib.Core.List.{[], _∷_};
 ghost use lib.ListN.{length};
-ghost use Rattle.messages.specs.Reading.{besideOf, readRules};
-ghost use Rattle.rules.specs.FromOctets.{IsId, OctetRequest};
-ghost use Rattle.rules.specs.Received.{matchReq};
-ghost use Rattle.rules.specs.Replies.{matchCnf, messageTo, framesTo};
+ghost use Rattle.rules.specs.FromOctets.{OctetRequest};
+ghost use Rattle.rules.specs.Replies.{messageTo, framesTo};
 ghost use Rattle.ends.specs.Sending.{Writable};
 ghost use Rattle.station.specs.Frames.{Ready, joinRule};
-ghost use Rattle.words.specs.Words.{configOf, editionIn, stationOf};
+ghost use Rattle.words.specs.Words.{editionIn, stationOf};
 ghost use Rattle.lahzavar.specs.Frames.{Comes, Takes, Replies};
+ghost use Rattle.lahzavar.specs.Matching.{firstId, secondId, asking, confirming};
 
 // MATCH.CNF of a run, with the identifiers of its request.
-fn confirm(config: Configuration, car: CarAddress, run: RunId, ids: Ids, out: &mut [u8]) -> Answered
-    requires { ⌜ Writable (messageTo config car (matchCnf run (ids .first) (ids .second))) (length (now out)) ⌝ }
-    ensures { λ r. ⌜ Replies (framesTo config car (matchCnf run (ids .first) (ids .second) ∷ [])) (now (out .entry)) (now (out .exit)) r ⌝ }
+fn confirm(
+    config: Configuration,
+    car: CarAddress,
+    run: RunId,
+    octets: &[u8],
+    out: &mut [u8],
+) -> Answered
+    requires { ⌜ Writable (messageTo config car (confirming (config .edition) run (now octets))) (length (now out)) ⌝ }
+    ensures { λ r. ⌜ Replies (framesTo config car (confirming (config .edition) run (now (octets .entry)) ∷ [])) (now (out .entry)) (now (out .exit)) r ⌝ }
 {
     let edition = config.edition;
     let message = reply::match_cnf(config, car, run);
     let groups = messages::no_groups();
+    let ids = messages::identifiers(edition, octets);
     let answer = ends::send(edition, message, groups, ids, Indication::Nothing, out);
     answers::answered(answer)
 }
@@ -47,11 +51,11 @@ fn join(
     spread: &mut StationSpread,
     car: CarAddress,
     run: RunId,
-    ids: Ids,
+    octets: &[u8],
     out: &mut [u8],
 ) -> Answered
-    requires { ⌜ Ready (stationOf (now words) (now sums) (now spread)) car (now out) × (IsId (editionIn (now words)) (ids .first) × IsId (editionIn (now words)) (ids .second)) ⌝ }
-    ensures { λ r. ⌜ Comes (joinRule (stationOf (now (words .entry)) (now (sums .entry)) (now (spread .entry))) car run (ids .first) (ids .second)) (now (words .entry)) (now (sums .entry)) (now (spread .entry)) (now (out .entry)) (now (out .exit)) (now (words .exit)) (now (sums .exit)) (now (spread .exit)) r ⌝ }
+    requires { ⌜ Ready (stationOf (now words) (now sums) (now spread)) car (now out) × OctetRequest (editionIn (now words)) (asking (editionIn (now words)) run (now octets)) ⌝ }
+    ensures { λ r. ⌜ Comes (joinRule (stationOf (now (words .entry)) (now (sums .entry)) (now (spread .entry))) car run (firstId (editionIn (now (words .entry))) (now (octets .entry))) (secondId (editionIn (now (words .entry))) (now (octets .entry)))) (now (words .entry)) (now (sums .entry)) (now (spread .entry)) (now (out .entry)) (now (out .exit)) (now (words .exit)) (now (sums .exit)) (now (spread .exit)) r ⌝ }
 {
     let found = words::own_place(words, car);
     let Found::Own(i) = found else {
@@ -72,7 +76,7 @@ fn join(
             };
             words::free_all(words);
             words::put_state(words, joining, pilot, clock);
-            confirm(config, car, run, ids, out)
+            confirm(config, car, run, octets, out)
         }
     }
 }
@@ -87,21 +91,19 @@ pub(crate) fn match_req(
     octets: &[u8],
     out: &mut [u8],
 ) -> Answered
-    requires { ⌜ Ready (stationOf (now words) (now sums) (now spread)) car (now out) × OctetRequest (editionIn (now words)) (matchReq run (besideOf (readRules (editionIn (now words)) (now octets)) .first) (besideOf (readRules (editionIn (now words)) (now octets)) .second)) ⌝ }
-    ensures { λ r. ⌜ Takes car (matchReq run (besideOf (readRules (editionIn (now (words .entry))) (now (octets .entry))) .first) (besideOf (readRules (editionIn (now (words .entry))) (now (octets .entry))) .second)) (now (words .entry)) (now (sums .entry)) (now (spread .entry)) (now (out .entry)) (now (out .exit)) (now (words .exit)) (now (sums .exit)) (now (spread .exit)) r ⌝ }
+    requires { ⌜ Ready (stationOf (now words) (now sums) (now spread)) car (now out) × OctetRequest (editionIn (now words)) (asking (editionIn (now words)) run (now octets)) ⌝ }
+    ensures { λ r. ⌜ Takes car (asking (editionIn (now (words .entry))) run (now (octets .entry))) (now (words .entry)) (now (sums .entry)) (now (spread .entry)) (now (out .entry)) (now (out .exit)) (now (words .exit)) (now (sums .exit)) (now (spread .exit)) r ⌝ }
 {
-    let edition = words::edition_of(words);
-    let ids = messages::identifiers(edition, octets);
     let state = words::state_of(words);
     match state {
-        State::Matching(_) => join(words, sums, spread, car, run, ids, out),
+        State::Matching(_) => join(words, sums, spread, car, run, octets, out),
         State::Joining {
             left: _,
             car: owner,
             run: own,
         } => {
             if (car.0 == owner.0) & (run.0 == own.0) {
-                confirm(words::config_of(words), car, run, ids, out)
+                confirm(words::config_of(words), car, run, octets, out)
             } else {
                 answers::refused(Refusal::NoRecord)
             }

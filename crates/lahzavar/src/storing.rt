@@ -45,10 +45,11 @@ pub(crate) fn configure(
     nmk: Nmk,
     exempt: bool,
     edition: Edition,
+    carriers: u32,
 ) -> Answered
-    ensures { λ r. ⌜ Configures address modem nid nmk exempt edition (now (words .exit)) (now (sums .exit)) (now (spread .exit)) r ⌝ }
+    ensures { λ r. ⌜ Configures address modem nid nmk exempt edition carriers (now (words .exit)) (now (sums .exit)) (now (spread .exit)) r ⌝ }
 {
-    let made = rules::configure(address, modem, nid, nmk, exempt, edition);
+    let made = rules::configure(address, modem, nid, nmk, exempt, edition, carriers);
     let station = made.station;
     let answer = made.answer;
     words::pack(station, words, sums, spread);

@@ -19,7 +19,7 @@ configure-requires : tie.Need-configure-requires
 configure-requires c κs = search needs
 
 returns : tie.Need-returns
-returns c = configures-as _ _ _ _ _ _ _ _ _ _ _ _ (c .before .before .before .own-address .ensures) (c .before .edition-of .ensures ∙ ap editionOf (c .before .before .wide .ensures)) (c .configure .ensures)
+returns c = configures-as _ _ _ _ _ _ _ _ _ _ _ _ _ (c .before .before .before .own-address .ensures) (c .before .edition-of .ensures ∙ ap editionOf (c .before .before .wide .ensures)) (c .configure .ensures)
 
 pub lahzavar-configure-spec : {M : Type 1} → statement M
 lahzavar-configure-spec =

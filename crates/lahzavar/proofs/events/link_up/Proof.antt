@@ -17,8 +17,8 @@ returns c = unconfigured _ _ _ _ (c .before .before .before .config-of .ensures)
 state-of-requires : tie.Need-state-of-requires
 state-of-requires c κs = search needs
 
-enum-told : tie.Need-enum-told
-enum-told c = search needs
+enum-known-state : tie.Need-enum-known-state
+enum-known-state c = search needs
 
 refused-requires-2 : tie.Need-refused-requires-2
 refused-requires-2 c κs = search needs
@@ -39,7 +39,7 @@ answered-requires : tie.Need-answered-requires
 answered-requires c κs = search needs
 
 returns-3 : tie.Need-returns-3
-returns-3 c = links _ _ _ _ (c .before .before .before .before .before .before .before .before .before .before .before .before .before .config-of .ensures) (not-false _ (c .before .before .before .before .before .before .before .before .before .before .before .if1 .left)) _ (c .before .before .before .before .before .before .before .before .before .state-of .ensures) _ _ _ _ _ (c .before .before .before .before .before .before .before .enum-told .given .1) (c .before .before .before .before .before .pilot-of .ensures) (c .before .before .before .clock-of .ensures) (c .before .put-state .ensures) (c .answered .ensures)
+returns-3 c = links _ _ _ _ (c .before .before .before .before .before .before .before .before .before .before .before .before .before .before .config-of .ensures) (not-false _ (c .before .before .before .before .before .before .before .before .before .before .before .before .if1 .left)) _ (c .before .before .before .before .before .before .before .before .before .before .state-of .ensures) _ _ _ _ _ (c .before .before .before .before .before .before .before .before .state .given .1) (c .before .before .before .before .before .pilot-of .ensures) (c .before .before .before .clock-of .ensures) (c .before .put-state .ensures) (c .answered .ensures)
 
 pub link-up-spec : {M : Type 1} → statement M
 link-up-spec =
@@ -49,7 +49,7 @@ link-up-spec =
     refused-requires
     returns
     state-of-requires
-    enum-told
+    enum-known-state
     refused-requires-2
     returns-2
     pilot-of-requires

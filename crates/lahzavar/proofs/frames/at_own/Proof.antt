@@ -8,7 +8,9 @@ use Rattle.receiving.specs.AtRecord.{ownRule}
 use Rattle.words.specs.Words.{editionIn}
 use Rattle.messages.specs.declared.Refusal.the-variants.{WrongState, NoRecord}
 use Rattle.rules.specs.Rules.{freeRecord}
+use Rattle.receiving.specs.Judge.{ownMessageOf}
 use Rattle.station.proofs.KeptLaws.{kept-good}
+use Rattle.station.proofs.OwnLaws.{change-own}
 use Rattle.lahzavar.proofs.FrameLaws.{comes-as, comes-refused, takes-none, takes-missing, takes-own}
 use borrow.Author.Needs.{needs}
 use Rattle.lahzavar.proofs.frames.at_own.Statement.{statement}
@@ -40,7 +42,7 @@ refused-requires-2 c κs = search needs
 returns-2 : tie.Need-returns-2
 returns-2 c =
     let a = c .before .before .before .before .before .before .before .before .before .before .args in
-    comes-refused _ NoRecord (a .words .now) (a .sums .now) (a .spread .now) (a .out .now) (c .refused2 .result) (takes-missing (a .words .now) (a .sums .now) (a .spread .now) (a .car) _ (c .before .before .before .before .before .before .state-of .ensures) _ (c .before .before .before .before .enum-told .given .1) (c .before .before .own-place .result) (c .before .before .own-place .ensures) (a .message) (besideOf (readRules (editionIn (a .words .now)) (a .octets .now))) (c .before .match2 .keys2)) (c .refused2 .ensures)
+    comes-refused _ NoRecord (a .words .now) (a .sums .now) (a .spread .now) (a .out .now) (c .refused2 .result) (takes-missing (a .words .now) (a .sums .now) (a .spread .now) (a .car) _ (c .before .before .before .before .before .before .state-of .ensures) _ (c .before .before .before .before .enum-told .given .1) (c .before .before .own-place .result) (c .before .before .own-place .ensures) (ownMessageOf (a .message) (besideOf (readRules (editionIn (a .words .now)) (a .octets .now)))) (ownRule (editionIn (a .words .now)) (a .message) (besideOf (readRules (editionIn (a .words .now)) (a .octets .now)))) (change-own _ (a .car) (a .message) _ _) (c .before .match2 .keys2)) (c .refused2 .ensures)
 
 edition-of-requires : tie.Need-edition-of-requires
 edition-of-requires c κs = search needs
@@ -70,7 +72,7 @@ returns-3 : tie.Need-returns-3
 returns-3 c =
     let a = c .before .before .before .before .before .before .before .before .before .before .before .before .before .before .before .before .before .before .before .before .before .before .before .before .before .args in
     comes-as _ _ (a .words .now) (a .sums .now) (a .spread .now) (a .out .now) _ _ _ _ (c .before .before .settle .result)
-    (takes-own (a .words .now) (a .sums .now) (a .spread .now) (a .car) _ (c .before .before .before .before .before .before .before .before .before .before .before .before .before .before .before .before .before .before .before .before .before .state-of .ensures) _ (c .before .before .before .before .before .before .before .before .before .before .before .before .before .before .before .before .before .before .before .enum-told .given .1) (c .before .before .before .before .before .before .before .before .before .before .before .before .before .before .before .before .before .own-place .result) (c .before .before .before .before .before .before .before .before .before .before .before .before .before .before .before .before .before .own-place .ensures) (a .message) (besideOf (readRules (editionIn (a .words .now)) (a .octets .now))) _ freeRecord _ _ (c .before .before .before .before .before .before .before .before .before .before .before .before .before .before .before .found .given .1) (c .before .before .before .before .before .before .before .before .record-at .ensures .0) (kept (c .before .before .before .before .before .before .before) .effect))
+    (takes-own (a .words .now) (a .sums .now) (a .spread .now) (a .car) _ (c .before .before .before .before .before .before .before .before .before .before .before .before .before .before .before .before .before .before .before .before .before .state-of .ensures) _ (c .before .before .before .before .before .before .before .before .before .before .before .before .before .before .before .before .before .before .before .enum-told .given .1) (c .before .before .before .before .before .before .before .before .before .before .before .before .before .before .before .before .before .own-place .result) (c .before .before .before .before .before .before .before .before .before .before .before .before .before .before .before .before .before .own-place .ensures) (ownMessageOf (a .message) (besideOf (readRules (editionIn (a .words .now)) (a .octets .now)))) (ownRule (editionIn (a .words .now)) (a .message) (besideOf (readRules (editionIn (a .words .now)) (a .octets .now)))) (change-own _ (a .car) (a .message) _ _) _ freeRecord _ _ (c .before .before .before .before .before .before .before .before .before .before .before .before .before .before .before .found .given .1) (c .before .before .before .before .before .before .before .before .record-at .ensures .0) (kept (c .before .before .before .before .before .before .before) .effect))
     (c .before .before .settle .ensures)
 
 pub at-own-spec : {M : Type 1} → statement M

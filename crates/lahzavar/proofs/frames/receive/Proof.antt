@@ -1,8 +1,8 @@
--- By what judging gives: a refusal, or the car's request.
+-- By what judging gives: refused as one of the eleven messages, or the car's request.
+use mathlib.Core.Path.{ap, _∙_}
 use Rattle.receiving.specs.declared.judge.Judged.the-variants.{Taken}
 use Rattle.receiving.specs.declared.judge.Request.{Request}
-use Rattle.lahzavar.proofs.FrameLaws.{comes-refused, frame-lent, frame-ready, frame-octets}
-use mathlib.Core.Path.{refl, ap, _∙_}
+use Rattle.lahzavar.proofs.FrameLaws.{frame-unread, frame-lent, frame-ready, frame-octets}
 use borrow.Author.Needs.{needs}
 use Rattle.lahzavar.proofs.frames.receive.Statement.{statement}
 use Rattle.lahzavar.proofs.frames.receive.Tie as tie
@@ -10,17 +10,18 @@ use Rattle.lahzavar.proofs.frames.receive.Tie as tie
 config-of-requires : tie.Need-config-of-requires
 config-of-requires c κs = search needs
 
-state-of-requires : tie.Need-state-of-requires
-state-of-requires c κs = search needs
-
 judge-requires : tie.Need-judge-requires
 judge-requires c κs = search needs
 
 enum-known-judged : tie.Need-enum-known-judged
 enum-known-judged c = search needs
 
-refused-requires : tie.Need-refused-requires
-refused-requires c κs = search needs
+unread-requires : tie.Need-unread-requires
+unread-requires c κs =
+    let a = c .before .before .before .before .before .before .before .before .before .before .args in
+    let j = c .before .before .before .before .before .judge in
+    let config = c .before .before .before .before .before .before .config-of .ensures in
+    frame-unread (a .words .now) (a .sums .now) (a .spread .now) (a .octets .now) (a .out .now) _ (j .result) config (j .ensures) _ (c .before .before .before .judged .given .1)
 
 enum-known-judged-2 : tie.Need-enum-known-judged-2
 enum-known-judged-2 c = search needs
@@ -30,80 +31,109 @@ enum-known-request c = search needs
 
 parm-req-requires : tie.Need-parm-req-requires
 parm-req-requires c κs =
-    let a = c .before .before .before .before .before .before .before .before .before .before .before .before .before .before .before .before .before .args in
-    frame-ready (a .words .now) (a .sums .now) (a .spread .now) (a .octets .now) (a .out .now) _ _ (c .before .before .before .before .before .before .before .before .before .before .judge .result) (c .before .before .before .before .before .before .before .before .before .before .before .before .before .config-of .ensures) (c .before .before .before .before .before .before .before .before .before .before .before .state-of .ensures) (c .before .before .before .before .before .before .before .before .before .before .judge .ensures) _ _ (c .before .before .before .before .before .before .before .before .judged2 .given .1)
+    let a = c .before .before .before .before .before .before .before .before .before .before .before .before .before .before .before .args in
+    let j = c .before .before .before .before .before .before .before .before .before .before .judge in
+    let config = c .before .before .before .before .before .before .before .before .before .before .before .config-of .ensures in
+    let t = c .before .before .before .before .before .before .before .before .judged2 .given .1 in
+    frame-ready (a .words .now) (a .sums .now) (a .spread .now) (a .octets .now) (a .out .now) _ (j .result) config (j .ensures) _ _ t
 
 enum-known-request-2 : tie.Need-enum-known-request-2
 enum-known-request-2 c = search needs
 
 at-own-requires : tie.Need-at-own-requires
 at-own-requires c κs =
-    let a = c .before .before .before .before .before .before .before .before .before .before .before .before .before .before .before .before .before .args in
+    let a = c .before .before .before .before .before .before .before .before .before .before .before .before .before .before .before .args in
+    let j = c .before .before .before .before .before .before .before .before .before .before .judge in
+    let config = c .before .before .before .before .before .before .before .before .before .before .before .config-of .ensures in
     let t = c .before .before .before .before .before .before .before .before .judged2 .given in
-    let q = t .1 ∙ ap (λ (q : Request). Taken (t .0 .0) q) (c .before .before .before .before .before .request2 .given .1) in
-    (frame-ready (a .words .now) (a .sums .now) (a .spread .now) (a .octets .now) (a .out .now) _ _ (c .before .before .before .before .before .before .before .before .before .before .judge .result) (c .before .before .before .before .before .before .before .before .before .before .before .before .before .config-of .ensures) (c .before .before .before .before .before .before .before .before .before .before .before .state-of .ensures) (c .before .before .before .before .before .before .before .before .before .before .judge .ensures) _ _ (t .1), frame-octets (a .words .now) (a .sums .now) (a .spread .now) (a .octets .now) (a .out .now) _ _ (c .before .before .before .before .before .before .before .before .before .before .judge .result) (c .before .before .before .before .before .before .before .before .before .before .before .before .before .config-of .ensures) (c .before .before .before .before .before .before .before .before .before .before .before .state-of .ensures) (c .before .before .before .before .before .before .before .before .before .before .judge .ensures) _ _ q (λ i. c .before .before .before .before .before .before .before .before .before .before .before .before .before .before .before .before .shared-slice-known .given i .fits))
+    let q = t .1 ∙ ap (λ (x : Request). Taken (t .0 .0) x) (c .before .before .before .before .before .request2 .given .1) in
+    (frame-ready (a .words .now) (a .sums .now) (a .spread .now) (a .octets .now) (a .out .now) _ (j .result) config (j .ensures) _ _ (t .1), frame-octets (a .words .now) (a .sums .now) (a .spread .now) (a .octets .now) (a .out .now) _ (j .result) config (j .ensures) _ _ q (λ i. c .before .before .before .before .before .before .before .before .before .before .before .before .before .before .shared-slice-known .given i .fits))
 
 enum-known-request-3 : tie.Need-enum-known-request-3
 enum-known-request-3 c = search needs
 
 match-req-requires : tie.Need-match-req-requires
 match-req-requires c κs =
-    let a = c .before .before .before .before .before .before .before .before .before .before .before .before .before .before .before .before .before .args in
+    let a = c .before .before .before .before .before .before .before .before .before .before .before .before .before .before .before .args in
+    let j = c .before .before .before .before .before .before .before .before .before .before .judge in
+    let config = c .before .before .before .before .before .before .before .before .before .before .before .config-of .ensures in
     let t = c .before .before .before .before .before .before .before .before .judged2 .given in
-    let q = t .1 ∙ ap (λ (q : Request). Taken (t .0 .0) q) (c .before .before .before .before .before .request3 .given .1) in
-    (frame-ready (a .words .now) (a .sums .now) (a .spread .now) (a .octets .now) (a .out .now) _ _ (c .before .before .before .before .before .before .before .before .before .before .judge .result) (c .before .before .before .before .before .before .before .before .before .before .before .before .before .config-of .ensures) (c .before .before .before .before .before .before .before .before .before .before .before .state-of .ensures) (c .before .before .before .before .before .before .before .before .before .before .judge .ensures) _ _ (t .1), frame-octets (a .words .now) (a .sums .now) (a .spread .now) (a .octets .now) (a .out .now) _ _ (c .before .before .before .before .before .before .before .before .before .before .judge .result) (c .before .before .before .before .before .before .before .before .before .before .before .before .before .config-of .ensures) (c .before .before .before .before .before .before .before .before .before .before .before .state-of .ensures) (c .before .before .before .before .before .before .before .before .before .before .judge .ensures) _ _ q (λ i. c .before .before .before .before .before .before .before .before .before .before .before .before .before .before .before .before .shared-slice-known .given i .fits))
+    let q = t .1 ∙ ap (λ (x : Request). Taken (t .0 .0) x) (c .before .before .before .before .before .request3 .given .1) in
+    (frame-ready (a .words .now) (a .sums .now) (a .spread .now) (a .octets .now) (a .out .now) _ (j .result) config (j .ensures) _ _ (t .1), frame-octets (a .words .now) (a .sums .now) (a .spread .now) (a .octets .now) (a .out .now) _ (j .result) config (j .ensures) _ _ q (λ i. c .before .before .before .before .before .before .before .before .before .before .before .before .before .before .shared-slice-known .given i .fits))
 
-by-value-requires : tie.Need-by-value-requires
-by-value-requires c κs = search needs
+enum-told : tie.Need-enum-told
+enum-told c = search needs
 
-returns : tie.Need-returns
-returns c =
-    let a = c .before .before .before .before .before .before .before .before .before .before .before .args in
-    let t = c .before .before .judged .given in
-    frame-lent (a .words .now) (a .sums .now) (a .spread .now) (a .octets .now) (a .out .now) _ _ (c .before .before .before .before .judge .result) (c .before .before .before .before .before .before .before .config-of .ensures) (c .before .before .before .before .before .state-of .ensures) (c .before .before .before .before .judge .ensures) _ _ _ _ _ (c .refused .result) (t .1) (comes-refused _ (t .0 .0) (a .words .now) (a .sums .now) (a .spread .now) (a .out .now) (c .refused .result) refl (c .refused .ensures))
+validate-first-requires : tie.Need-validate-first-requires
+validate-first-requires c κs =
+    let a = c .before .before .before .before .before .before .before .before .before .before .before .before .before .before .args in
+    let j = c .before .before .before .before .before .before .before .before .before .judge in
+    let config = c .before .before .before .before .before .before .before .before .before .before .config-of .ensures in
+    let t = c .before .before .before .before .before .before .before .judged2 .given .1 in
+    frame-ready (a .words .now) (a .sums .now) (a .spread .now) (a .octets .now) (a .out .now) _ (j .result) config (j .ensures) _ _ t
 
 same-length : tie.Need-same-length
 same-length c = search needs
 
-returns-2 : tie.Need-returns-2
-returns-2 c =
-    let a = c .before .before .before .before .before .before .before .before .before .before .before .before .before .before .before .before .before .before .before .before .args in
-    let t = c .before .before .before .before .before .before .before .before .before .before .before .judged2 .given in
-    frame-lent (a .words .now) (a .sums .now) (a .spread .now) (a .octets .now) (a .out .now) _ _ (c .before .before .before .before .before .before .before .before .before .before .before .before .before .judge .result) (c .before .before .before .before .before .before .before .before .before .before .before .before .before .before .before .before .config-of .ensures) (c .before .before .before .before .before .before .before .before .before .before .before .before .before .before .state-of .ensures) (c .before .before .before .before .before .before .before .before .before .before .before .before .before .judge .ensures) _ _ _ _ _ (c .before .before .parm-req .result) (t .1 ∙ ap (λ (q : Request). Taken (t .0 .0) q) (c .before .before .before .before .before .before .before .before .request .given .1)) (c .before .before .parm-req .ensures)
+returns : tie.Need-returns
+returns c = let a = c .before .before .before .before .before .before .before .before .before .before .before .before .before .args in c .before .before .unread .ensures (a .sums .now) (a .spread .now)
 
 same-length-2 : tie.Need-same-length-2
 same-length-2 c = search needs
 
-returns-3 : tie.Need-returns-3
-returns-3 c =
-    let a = c .before .before .before .before .before .before .before .before .before .before .before .before .before .before .before .before .before .before .before .before .args in
+returns-2 : tie.Need-returns-2
+returns-2 c =
+    let a = c .before .before .before .before .before .before .before .before .before .before .before .before .before .before .before .before .before .before .args in
+    let j = c .before .before .before .before .before .before .before .before .before .before .before .before .before .judge in
+    let config = c .before .before .before .before .before .before .before .before .before .before .before .before .before .before .config-of .ensures in
     let t = c .before .before .before .before .before .before .before .before .before .before .before .judged2 .given in
-    frame-lent (a .words .now) (a .sums .now) (a .spread .now) (a .octets .now) (a .out .now) _ _ (c .before .before .before .before .before .before .before .before .before .before .before .before .before .judge .result) (c .before .before .before .before .before .before .before .before .before .before .before .before .before .before .before .before .config-of .ensures) (c .before .before .before .before .before .before .before .before .before .before .before .before .before .before .state-of .ensures) (c .before .before .before .before .before .before .before .before .before .before .before .before .before .judge .ensures) _ _ _ _ _ (c .before .before .at-own .result) (t .1 ∙ ap (λ (q : Request). Taken (t .0 .0) q) (c .before .before .before .before .before .before .before .before .request2 .given .1)) (c .before .before .at-own .ensures)
+    let q = t .1 ∙ ap (λ (x : Request). Taken (t .0 .0) x) (c .before .before .before .before .before .before .before .before .request .given .1) in
+    frame-lent (a .words .now) (a .sums .now) (a .spread .now) (a .octets .now) (a .out .now) _ (j .result) config (j .ensures) _ _ q _ _ _ _ (c .before .before .parm-req .result) (c .before .before .parm-req .ensures)
 
 same-length-3 : tie.Need-same-length-3
 same-length-3 c = search needs
 
-returns-4 : tie.Need-returns-4
-returns-4 c =
-    let a = c .before .before .before .before .before .before .before .before .before .before .before .before .before .before .before .before .before .before .before .before .args in
+returns-3 : tie.Need-returns-3
+returns-3 c =
+    let a = c .before .before .before .before .before .before .before .before .before .before .before .before .before .before .before .before .before .before .args in
+    let j = c .before .before .before .before .before .before .before .before .before .before .before .before .before .judge in
+    let config = c .before .before .before .before .before .before .before .before .before .before .before .before .before .before .config-of .ensures in
     let t = c .before .before .before .before .before .before .before .before .before .before .before .judged2 .given in
-    frame-lent (a .words .now) (a .sums .now) (a .spread .now) (a .octets .now) (a .out .now) _ _ (c .before .before .before .before .before .before .before .before .before .before .before .before .before .judge .result) (c .before .before .before .before .before .before .before .before .before .before .before .before .before .before .before .before .config-of .ensures) (c .before .before .before .before .before .before .before .before .before .before .before .before .before .before .state-of .ensures) (c .before .before .before .before .before .before .before .before .before .before .before .before .before .judge .ensures) _ _ _ _ _ (c .before .before .match-req .result) (t .1 ∙ ap (λ (q : Request). Taken (t .0 .0) q) (c .before .before .before .before .before .before .before .before .request3 .given .1)) (c .before .before .match-req .ensures)
+    let q = t .1 ∙ ap (λ (x : Request). Taken (t .0 .0) x) (c .before .before .before .before .before .before .before .before .request2 .given .1) in
+    frame-lent (a .words .now) (a .sums .now) (a .spread .now) (a .octets .now) (a .out .now) _ (j .result) config (j .ensures) _ _ q _ _ _ _ (c .before .before .at-own .result) (c .before .before .at-own .ensures)
 
 same-length-4 : tie.Need-same-length-4
 same-length-4 c = search needs
 
+returns-4 : tie.Need-returns-4
+returns-4 c =
+    let a = c .before .before .before .before .before .before .before .before .before .before .before .before .before .before .before .before .before .before .args in
+    let j = c .before .before .before .before .before .before .before .before .before .before .before .before .before .judge in
+    let config = c .before .before .before .before .before .before .before .before .before .before .before .before .before .before .config-of .ensures in
+    let t = c .before .before .before .before .before .before .before .before .before .before .before .judged2 .given in
+    let q = t .1 ∙ ap (λ (x : Request). Taken (t .0 .0) x) (c .before .before .before .before .before .before .before .before .request3 .given .1) in
+    frame-lent (a .words .now) (a .sums .now) (a .spread .now) (a .octets .now) (a .out .now) _ (j .result) config (j .ensures) _ _ q _ _ _ _ (c .before .before .match-req .result) (c .before .before .match-req .ensures)
+
+same-length-5 : tie.Need-same-length-5
+same-length-5 c = search needs
+
 returns-5 : tie.Need-returns-5
-returns-5 c = search needs
+returns-5 c =
+    let a = c .before .before .before .before .before .before .before .before .before .before .before .before .before .before .before .before .before .args in
+    let j = c .before .before .before .before .before .before .before .before .before .before .before .before .judge in
+    let config = c .before .before .before .before .before .before .before .before .before .before .before .before .before .config-of .ensures in
+    let t = c .before .before .before .before .before .before .before .before .before .before .judged2 .given in
+    let q = t .1 ∙ ap (λ (x : Request). Taken (t .0 .0) x) (c .before .before .before .before .before .before .before .enum-told .given .1) in
+    frame-lent (a .words .now) (a .sums .now) (a .spread .now) (a .octets .now) (a .out .now) _ (j .result) config (j .ensures) _ _ q _ _ _ _ (c .before .before .validate-first .result) (c .before .before .validate-first .ensures)
 
 pub receive-spec : {M : Type 1} → statement M
 receive-spec =
     tie.close
     (tie.spec
     config-of-requires
-    state-of-requires
     judge-requires
     enum-known-judged
-    refused-requires
+    unread-requires
     enum-known-judged-2
     enum-known-request
     parm-req-requires
@@ -111,13 +141,15 @@ receive-spec =
     at-own-requires
     enum-known-request-3
     match-req-requires
-    by-value-requires
-    returns
+    enum-told
+    validate-first-requires
     same-length
-    returns-2
+    returns
     same-length-2
-    returns-3
+    returns-2
     same-length-3
-    returns-4
+    returns-3
     same-length-4
+    returns-4
+    same-length-5
     returns-5)

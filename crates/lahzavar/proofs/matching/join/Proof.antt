@@ -4,6 +4,8 @@ use mathlib.Core.Path.{sym, ap, _∙_}
 use Rattle.messages.specs.Reading.{yes}
 use Rattle.messages.specs.declared.Refusal.the-variants.{NoRecord}
 use Rattle.records.specs.Requests.{verdictOf}
+use Rattle.words.specs.Words.{editionIn}
+use Rattle.lahzavar.specs.Matching.{firstId, secondId}
 use Rattle.lahzavar.proofs.FrameLaws.{comes-as, comes-refused}
 use Rattle.lahzavar.proofs.MatchLaws.{confirmable, comes-joined, join-missing, join-verdict}
 use borrow.Author.Needs.{needs}
@@ -21,9 +23,9 @@ refused-requires c κs = search needs
 
 returns : tie.Need-returns
 returns c =
-    let a = c .before .before .before .before .before .args in
+    let a = c .before .before .before .before .before .before .args in
     comes-refused _ NoRecord (a .words .now) (a .sums .now) (a .spread .now) (a .out .now) (c .refused .result)
-    (join-missing (a .words .now) (a .sums .now) (a .spread .now) (a .car) (a .run) (a .ids .first) (a .ids .second) (c .before .before .own-place .result) (c .before .before .own-place .ensures) (c .before .match .keys2)) (c .refused .ensures)
+    (join-missing (a .words .now) (a .sums .now) (a .spread .now) (a .car) (a .run) (firstId (editionIn (a .words .now)) (a .octets .now)) (secondId (editionIn (a .words .now)) (a .octets .now)) (c .before .before .own-place .result) (c .before .before .own-place .ensures) (c .before .match .keys2)) (c .refused .ensures)
 
 record-at-requires : tie.Need-record-at-requires
 record-at-requires c κs = search needs
@@ -59,32 +61,34 @@ put-state-requires c κs = search needs
 run-fits : (c : tie.Start) → c .args .run .0 < 2 ^ 64
 run-fits c = search needs
 
--- and so is each half of the key
+-- and so is each half of the key, by the configuration's fields: `search` does not reach them behind so many calls
 key-fits : (c : tie.After-config-of) → (c .config-of .result .nmk .0 < 2 ^ 64) × (c .config-of .result .nmk .1 < 2 ^ 64)
-key-fits c = (search needs, search needs)
+key-fits c = let nmk = c .config-of .ok .1 .1 .1 .1 .1 .1 .0 .1 .1 in (nmk .0 .1, nmk .1 .0 .1)
 
 confirm-requires : tie.Need-confirm-requires
 confirm-requires c κs =
-    let s = c .before .before .before .before .before .before .before .before .before .before .before .before .before .before .before .before .before .before .before .before .before .before .before .before in
+    let s = c .before .before .before .before .before .before .before .before .before .before .before .before .before .before .before .before .before .before .before .before .before .before .before .before .before in
     let a = s .args in
     let config = c .before .before .before .before .before .before .before .before .before in
-    confirmable (a .words .now) (a .sums .now) (a .spread .now) (a .out .now) (a .car) (a .run) (a .ids .first) (a .ids .second) _ (config .config-of .ensures) (s .pre .0) (s .pre .1 .0) (s .pre .1 .1) (run-fits s) (key-fits config)
+    confirmable (a .words .now) (a .sums .now) (a .spread .now) (a .octets .now) (a .out .now) (a .car) (a .run) _ (config .config-of .ensures) (s .pre .0) (s .pre .1) (run-fits s) (key-fits config)
 
 returns-2 : tie.Need-returns-2
 returns-2 c =
-    let a = c .before .before .before .before .before .before .before .before .before .before .before .before .before .before .before .args in
+    let a = c .before .before .before .before .before .before .before .before .before .before .before .before .before .before .before .before .args in
+    let found = c .before .before .before .before .before .before .before .before .before .before .before .before .own-place in
     comes-refused _ (c .before .before .verdict .given .0 .0) (a .words .now) (a .sums .now) (a .spread .now) (a .out .now) (c .refused2 .result)
-    (join-verdict (a .words .now) (a .sums .now) (a .spread .now) (a .car) (a .run) (a .ids .first) (a .ids .second) (c .before .before .before .before .before .before .before .before .before .before .before .before .own-place .result) (c .before .before .before .before .before .before .before .before .before .before .before .before .own-place .ensures) _ _ (c .before .before .before .before .before .record-at .result) _ (c .before .before .before .before .before .before .before .before .before .before .found .given .1) (c .before .before .before .before .before .record-at .ensures .0) (sym (ap verdictOf (c .before .before .verdict .given .1)) ∙ c .before .before .before .before .match-req .ensures)) (c .refused2 .ensures)
+    (join-verdict (a .words .now) (a .sums .now) (a .spread .now) (a .car) (a .run) (firstId (editionIn (a .words .now)) (a .octets .now)) (secondId (editionIn (a .words .now)) (a .octets .now)) (found .result) (found .ensures) _ _ (c .before .before .before .before .before .record-at .result) _ (c .before .before .before .before .before .before .before .before .before .before .found .given .1) (c .before .before .before .before .before .record-at .ensures .0) (sym (ap verdictOf (c .before .before .verdict .given .1)) ∙ c .before .before .before .before .match-req .ensures)) (c .refused2 .ensures)
 
 same-length : tie.Need-same-length
 same-length c = search needs
 
 returns-3 : tie.Need-returns-3
 returns-3 c =
-    let a = c .before .before .before .before .before .before .before .before .before .before .before .before .before .before .before .before .before .before .before .before .before .before .before .before .before .before .before .args in
+    let a = c .before .before .before .before .before .before .before .before .before .before .before .before .before .before .before .before .before .before .before .before .before .before .before .before .before .before .before .before .args in
+    let found = c .before .before .before .before .before .before .before .before .before .before .before .before .before .before .before .before .before .before .before .before .before .before .before .before .own-place in
     comes-as _ _ (a .words .now) (a .sums .now) (a .spread .now) (a .out .now) _ _ _ _ (c .before .before .confirm .result)
-    (sym (join-verdict (a .words .now) (a .sums .now) (a .spread .now) (a .car) (a .run) (a .ids .first) (a .ids .second) (c .before .before .before .before .before .before .before .before .before .before .before .before .before .before .before .before .before .before .before .before .before .before .before .before .own-place .result) (c .before .before .before .before .before .before .before .before .before .before .before .before .before .before .before .before .before .before .before .before .before .before .before .before .own-place .ensures) _ _ (c .before .before .before .before .before .before .before .before .before .before .before .before .before .before .before .before .before .record-at .result) (yes tt) (c .before .before .before .before .before .before .before .before .before .before .before .before .before .before .before .before .before .before .before .before .before .before .found .given .1) (c .before .before .before .before .before .before .before .before .before .before .before .before .before .before .before .before .before .record-at .ensures .0) (sym (ap verdictOf (c .before .before .before .before .before .before .before .before .before .before .before .before .before .before .enum-told .given .1)) ∙ c .before .before .before .before .before .before .before .before .before .before .before .before .before .before .before .before .match-req .ensures)))
-    (comes-joined (a .words .now) (a .sums .now) (a .spread .now) (a .out .now) _ _ (c .before .before .confirm .result) (a .car) (a .run) (a .ids .first) (a .ids .second) _ (c .before .before .before .before .before .before .before .before .before .before .before .before .config-of .ensures) (c .before .before .confirm .ensures) _ _ _ _ (c .before .before .before .before .before .before .before .before .before .before .pilot-of .ensures) (c .before .before .before .before .before .before .before .before .clock-of .ensures) (c .before .before .before .before .before .before .free-all .ensures) (c .before .before .before .before .put-state .ensures))
+    (sym (join-verdict (a .words .now) (a .sums .now) (a .spread .now) (a .car) (a .run) (firstId (editionIn (a .words .now)) (a .octets .now)) (secondId (editionIn (a .words .now)) (a .octets .now)) (found .result) (found .ensures) _ _ (c .before .before .before .before .before .before .before .before .before .before .before .before .before .before .before .before .before .record-at .result) (yes tt) (c .before .before .before .before .before .before .before .before .before .before .before .before .before .before .before .before .before .before .before .before .before .before .found .given .1) (c .before .before .before .before .before .before .before .before .before .before .before .before .before .before .before .before .before .record-at .ensures .0) (sym (ap verdictOf (c .before .before .before .before .before .before .before .before .before .before .before .before .before .before .enum-told .given .1)) ∙ c .before .before .before .before .before .before .before .before .before .before .before .before .before .before .before .before .match-req .ensures)))
+    (comes-joined (a .words .now) (a .sums .now) (a .spread .now) (a .out .now) _ _ (c .before .before .confirm .result) (a .car) (a .run) (a .octets .now) _ (c .before .before .before .before .before .before .before .before .before .before .before .before .config-of .ensures) (c .before .before .confirm .ensures) _ _ _ _ (c .before .before .before .before .before .before .before .before .before .before .pilot-of .ensures) (c .before .before .before .before .before .before .before .before .clock-of .ensures) (c .before .before .before .before .before .before .free-all .ensures) (c .before .before .before .before .put-state .ensures))
 
 pub join-spec : {M : Type 1} → statement M
 join-spec =

@@ -14,7 +14,7 @@ answered-requires : tie.Need-answered-requires
 answered-requires c κs = search needs
 
 returns : tie.Need-returns
-returns c = configured-lent _ _ _ _ _ _ _ _ _ _ _ (c .before .before .before .before .before .before .configure .ensures) (c .before .pack .ensures) (c .answered .ensures)
+returns c = configured-lent _ _ _ _ _ _ _ _ _ _ _ _ (c .before .before .before .before .before .before .configure .ensures) (c .before .pack .ensures) (c .answered .ensures)
 
 pub configure-spec : {M : Type 1} → statement M
 configure-spec = tie.close (tie.spec configure-requires pack-requires answered-requires returns)
