@@ -69,9 +69,9 @@ module _ (s : List ℕ) (o : Octets s) (p : Parts s) where
 
   configuration-same : encode layout.fields (valuesOf (q .configuration)) ≡ part s headOctets configurationOctets
   configuration-same =
-      let right : holds headOctets layout.fields s ≡ true = ap₂ _&&_ (lt-ltb _ (256 ^ 7) (low-lt s _ 7 o)) (ap₂ _&&_ (lt-ltb _ (256 ^ 4) (low-lt s _ 4 o)) (ap₂ _&&_ (lt-ltb _ (256 ^ 4) (low-lt s _ 4 o)) refl)) in
+      let right : holds headOctets layout.fields s ≡ true = ap₂ _&&_ (lt-ltb _ (256 ^ 7) (low-lt s _ 7 o)) (ap₂ _&&_ (lt-ltb _ (256 ^ 4) (low-lt s _ 4 o)) (ap₂ _&&_ (lt-ltb _ (256 ^ 4) (low-lt s _ 4 o)) (ap₂ _&&_ (lt-ltb _ (256 ^ 4) (low-lt s _ 4 o)) refl))) in
       encode-read s o layout.fields headOctets (omega (arith, events-stand .ends, replies-stand .ends)) right
-      ∙ zeroed-part s layout.fields headOctets ((λ k. refl), ((λ k. refl), ((λ k. refl), ((λ k. refl), ((λ k. refl), ((λ k. refl), ((λ k. refl), tt)))))))
+      ∙ zeroed-part s layout.fields headOctets ((λ k. refl), ((λ k. refl), ((λ k. refl), ((λ k. refl), ((λ k. refl), ((λ k. refl), ((λ k. refl), ((λ k. refl), tt))))))))
 
   octets-same : logOctets q ≡ s
   unfolding logOctets
@@ -163,7 +163,7 @@ module _ (g : Given) (typed : Typed g) (m : Meant g) where
       let exemption = leb-true (c .exemption) 1 (and-left (isSetting (c .exemption)) (isSetting (c .edition)) (m .settings)) in
       let edition = leb-true (c .edition) 1 (and-right (isSetting (c .exemption)) (isSetting (c .edition)) (m .settings)) in (
         ltb-true (c .address .0) (2 ^ 48) (and-left (ltb (c .address .0) (2 ^ 48)) (ltb (c .modem .0) (2 ^ 48)) both),
-        (ltb-true (c .modem .0) (2 ^ 48) (and-right (ltb (c .address .0) (2 ^ 48)) (ltb (c .modem .0) (2 ^ 48)) both), ((nid, nid), (typed .high, (typed .low, ((omega arith, omega arith), ((omega arith, omega arith), tt)))))),
+        (ltb-true (c .modem .0) (2 ^ 48) (and-right (ltb (c .address .0) (2 ^ 48)) (ltb (c .modem .0) (2 ^ 48)) both), ((nid, nid), (typed .high, (typed .low, ((omega arith, omega arith), ((omega arith, omega arith), ((typed .carriers, typed .carriers), tt))))))),
       )
 
   same-count : length (l .replies) ≡ length (l .events)

@@ -22,12 +22,13 @@ pub record IsHead (h : List ℕ) : Type 0 where
   pub first : firstIn h < 2 ^ 32
   pub second : secondIn h < 2 ^ 32
 
--- what is given, as its types have it: heads, and an NMK of two numbers of 64 bits
+-- what is given, as its types have it: heads, an NMK of two numbers of 64 bits, and carriers of 32
 pub record Typed (g : Given) : Type 0 where
   pub events : All IsHead (g .events)
   pub replies : All IsHead (g .replies)
   pub high : g .configuration .nmk .0 < 2 ^ 64
   pub low : g .configuration .nmk .1 < 2 ^ 64
+  pub carriers : g .configuration .carriers < 2 ^ 32
 
 -- reading what was written gives the log that was meant
 abbrev pub ReadsWritten : Type 0

@@ -18,9 +18,9 @@ mostOctets = 65536
 abbrev pub headOctets : ℕ
 headOctets = 20
 
--- the configuration: two addresses, NID, NMK, the exemption and the edition
+-- the configuration: two addresses, NID, NMK, the exemption, the edition and our carriers
 abbrev pub configurationOctets : ℕ
-configurationOctets = 43
+configurationOctets = 47
 
 -- what stands in front of an item's own octets: three numbers
 abbrev pub itemOctets : ℕ
@@ -44,13 +44,13 @@ numbersAt s at (suc n) = lowValue s at 4 ∷ numbersAt s (at + 4) n
 
 -- ---- the configuration
 
--- our address and the modem's, as in frames; NID, low octet first; NMK; 1 where validation is not required, else 0; 1 in the SAE edition, 0 in the ISO edition
+-- our address and the modem's, as in frames; NID, low octet first; NMK; 1 where validation is not required, else 0; 1 in the SAE edition, 0 in the ISO edition; our carriers, any number
 abbrev pub fields : List Field
-fields = number 6 ∷ number 6 ∷ low 7 (256 ^ 7) ∷ number 8 ∷ number 8 ∷ low 4 (256 ^ 4) ∷ low 4 (256 ^ 4) ∷ []
+fields = number 6 ∷ number 6 ∷ low 7 (256 ^ 7) ∷ number 8 ∷ number 8 ∷ low 4 (256 ^ 4) ∷ low 4 (256 ^ 4) ∷ low 4 (256 ^ 4) ∷ []
 
 -- a configuration as values of these fields
 abbrev pub valuesOf : Configuration → Values fields
-valuesOf c = (c .address .0, (c .modem .0, (c .nid .0, (c .nmk .0, (c .nmk .1, (c .exemption, (c .edition, tt)))))))
+valuesOf c = (c .address .0, (c .modem .0, (c .nid .0, (c .nmk .0, (c .nmk .1, (c .exemption, (c .edition, (c .carriers, tt))))))))
 
 -- and back
 abbrev pub configurationOf : Values fields → Configuration
@@ -61,6 +61,7 @@ configurationOf v = record {
   nmk = record { 0 = v .1 .1 .1 .0; 1 = v .1 .1 .1 .1 .0 };
   exemption = v .1 .1 .1 .1 .1 .0;
   edition = v .1 .1 .1 .1 .1 .1 .0;
+  carriers = v .1 .1 .1 .1 .1 .1 .1 .0;
 }
 
 -- the configuration that stands in the log s

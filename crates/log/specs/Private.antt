@@ -2,17 +2,18 @@
 use Prim.Native.Nat.{ℕ, _+_, _*_, _≤_}
 use mathlib.Core.Path.{_≡_}
 use mathlib.Core.Bool.{true}
-use mathlib.Core.List.{List, []}
+use mathlib.Core.List.{List, [], _∷_}
 use lib.ListN.{length, getD, drop}
 use Rattle.octets.specs.Octets.{part}
 use Rattle.messages.specs.Reading.{Checked, no, yes}
+use Rattle.log.specs.declared.Configuration.{Configuration}
 use Rattle.log.specs.declared.judging.Judged.{Judged}
 use Rattle.log.specs.declared.judging.Judged.the-variants.{Fine, Refused}
 use Rattle.log.specs.declared.judging.Which.{Which}
 use Rattle.log.specs.declared.judging.Which.the-variants.{Events, Replies}
 use Rattle.log.specs.Meaning.{Item, headOf, lengthIn, itemOf}
 use Rattle.log.specs.Answers.{numberOf}
-use Rattle.log.specs.Layout.{mostOctets, itemOctets, itemAt}
+use Rattle.log.specs.Layout.{mostOctets, headOctets, itemOctets, itemAt}
 use Rattle.log.specs.Reading.{Rules, endsAt, eventRules, replyRules}
 use Rattle.log.specs.Writing.{sizeOf, isWhole}
 
@@ -51,6 +52,14 @@ givenItem w hs i s at = rulesOf w (headIn hs i) (isWhole (headIn hs i) (drop (i 
 abbrev pub causeOf : Which → ℕ
 causeOf Events = 11
 causeOf Replies = 14
+
+-- where a configuration's settings start: behind the NMK
+abbrev pub settingsStart : ℕ
+settingsStart = headOctets + 35
+
+-- the settings: the exemption, the edition and our carriers
+abbrev pub settingsOf : Configuration → List ℕ
+settingsOf c = c .exemption ∷ c .edition ∷ c .carriers ∷ []
 
 -- the first length that no log has
 abbrev pub tooLong : ℕ

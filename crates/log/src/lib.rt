@@ -24,8 +24,8 @@ pub const MOST_OCTETS: usize = 65536;
 // How many octets the head takes: five numbers.
 pub const HEAD_OCTETS: usize = 20;
 
-// How many octets the configuration takes: two addresses, NID, NMK, the exemption and the edition.
-pub const CONFIGURATION_OCTETS: usize = 43;
+// How many octets the configuration takes: two addresses, NID, NMK, the exemption, the edition and our carriers.
+pub const CONFIGURATION_OCTETS: usize = 47;
 
 // How many octets stand in front of an event's or a reply's own: three numbers.
 pub const ITEM_OCTETS: usize = 12;
@@ -36,8 +36,8 @@ pub const EVENTS_START: usize = HEAD_OCTETS + CONFIGURATION_OCTETS;
 // An event's kind, reading and length; or a reply's refusal or 0, indication and length.
 pub type Head = [u32; 3];
 
-// A configuration as it was given; the exemption is 1 where validation is not required, else 0, and the edition 0 for ISO, 1 for
-// SAE.
+// A configuration as it was given; the exemption is 1 where validation is not required, else 0, the edition 0 for ISO, 1 for SAE,
+// and our carriers are any number.
 pub struct Configuration {
     pub address: StationAddress,
     pub modem: ModemAddress,
@@ -45,6 +45,7 @@ pub struct Configuration {
     pub nmk: Nmk,
     pub exemption: u32,
     pub edition: u32,
+    pub carriers: u32,
 }
 
 // Why a log is refused, in the order of the numbers from 1 on.
@@ -123,6 +124,7 @@ pub fn configuration_in(log: &[u8]) -> Configuration
         nmk: nmk,
         exemption: reader::number_in(log, HEAD_OCTETS + 35) as u32,
         edition: reader::number_in(log, HEAD_OCTETS + 39) as u32,
+        carriers: reader::number_in(log, HEAD_OCTETS + 43) as u32,
     }
 }
 

@@ -23,7 +23,10 @@ ghost use Rattle.log.specs.Meaning.{lengthIn};
 ghost use Rattle.log.specs.Layout.{mostOctets, headOctets, eventsStart, fields, valuesOf, numbers, octetsOf, listOctets, logOctets};
 ghost use Rattle.log.specs.Writing.{given, itemsOf, logOf, sizeOf, isNarrow, givenRules, meaningRules};
 ghost use Rattle.log.specs.Answers.{numberOf};
-ghost use Rattle.log.specs.Private.{judgedOf, told, rulesOf, headIn, itemIn, givenItem, causeOf, tooLong, Fitting};
+ghost use Rattle.log.specs.Private.{judgedOf, told, rulesOf, headIn, itemIn, givenItem, causeOf, tooLong, Fitting, settingsStart, settingsOf};
+
+// Where the settings start: behind the NMK.
+const SETTINGS: usize = HEAD_OCTETS + 35;
 
 // The first length that no log has.
 const TOO_LONG: usize = MOST_OCTETS + 1;
@@ -218,6 +221,18 @@ fn put_head(out: &mut [u8], events: usize, replies: usize, start: usize, total: 
     put_number(out, 16, total);
 }
 
+// Writes the settings behind the NMK: the exemption, the edition and our carriers.
+fn put_settings(out: &mut [u8], configuration: Configuration)
+    ensures { λ _. ⌜ now (out .exit) ≡ sets (now (out .entry)) settingsStart (numbers (settingsOf configuration)) ⌝ }
+{
+    let exemption = configuration.exemption;
+    let edition = configuration.edition;
+    let carriers = configuration.carriers;
+    put_number(out, SETTINGS, wide(exemption));
+    put_number(out, SETTINGS + 4, wide(edition));
+    put_number(out, SETTINGS + 4 + 4, wide(carriers));
+}
+
 // Writes the configuration behind the head.
 fn put_configuration(out: &mut [u8], configuration: Configuration)
     ensures { λ _. ⌜ now (out .exit) ≡ sets (now (out .entry)) headOctets (encode fields (valuesOf configuration)) ⌝ }
@@ -226,15 +241,12 @@ fn put_configuration(out: &mut [u8], configuration: Configuration)
     let modem = configuration.modem;
     let nid = configuration.nid;
     let nmk = configuration.nmk;
-    let exemption = configuration.exemption;
-    let edition = configuration.edition;
     octets::put_number(out, HEAD_OCTETS, 6, address.0);
     octets::put_number(out, HEAD_OCTETS + 6, 6, modem.0);
     octets::put_low_number(out, HEAD_OCTETS + 12, 7, nid.0);
     octets::put_number(out, HEAD_OCTETS + 19, 8, nmk.0);
     octets::put_number(out, HEAD_OCTETS + 27, 8, nmk.1);
-    put_number(out, HEAD_OCTETS + 35, wide(exemption));
-    put_number(out, HEAD_OCTETS + 39, wide(edition));
+    put_settings(out, configuration);
 }
 
 // Writes the log.

@@ -6,16 +6,20 @@ use mathlib.Core.List.{List, [], _∷_}
 use mathlib.Core.Option.{Option, none, some}
 use native.Mathlib.Omega.{arith}
 use lib.Dec.{eqb, leb, ltb}
-use lib.ListN.{length, drop}
-use Rattle.octets.specs.Octets.{value}
+use lib.ListN.{length, getD, drop}
+use Rattle.octets.specs.Octets.{value, lowValue}
 use Rattle.messages.specs.Layout.{Values, size, holds, read}
-use Rattle.messages.specs.Table.{Kind, slacParmReq, slacParmCnf, startAttenCharInd, attenCharInd, attenCharRsp, mnbcSoundInd, validateReq, validateCnf, slacMatchReq, slacMatchCnf, attenProfileInd, isCount, countAt, head, filledSize, writtenSize, payload, addressed, Message}
-use Rattle.messages.specs.Reading.{Checked, no, yes, check, ofType, kinds, Form, countRules, sized, typed, kindRules, payloadRules, frameRules, readRules}
+use Rattle.messages.specs.Table.{Kind, slacParmReq, slacParmCnf, startAttenCharInd, attenCharInd, attenCharRsp, mnbcSoundInd, validateReq, validateCnf, slacMatchReq, slacMatchCnf, attenProfileInd, isCount, countAt, head, filledSize, writtenSize, paddedSize, payload, addressed}
+use Rattle.messages.specs.Reading.{Checked, no, yes, check, ofType, kinds, Form, countRules, sized, typed, typeIn, kindRules, payloadRules, frameRules, readRules}
+use Rattle.amplitude.specs.Halves.{halves}
+use Rattle.amplitude.specs.Maps.{MapMessage, reqType, cnfType, isCarriers, countSize, reqSize, cnfSize, filled, resultLimit, isAddressed}
+use Rattle.amplitude.specs.Reading as maps
+use Rattle.amplitude.specs.Reading.{dstIn, srcIn, mapOctets, requestOf, confirmRules, Summary, requested, confirmed, summaryOf}
 use Rattle.ends.specs.Clock.{elapsed, tickTime}
 use Rattle.ends.specs.Constants.{retryCount, longestGap}
 use Rattle.ends.proofs.AnswerLaws.{no-same}
 use Rattle.ends.proofs.Logic.{on-cond}
-use Rattle.ends.specs.Outcomes.{andThen, outcomeOf}
+use Rattle.ends.specs.Outcomes.{andThen, orElse, outcomeOf}
 use Rattle.rules.specs.declared.Configuration.{Configuration}
 use Rattle.rules.specs.declared.Phase.{Phase}
 use Rattle.rules.specs.declared.Phase.the-variants.{Asked, Sounding, Reported, Awaiting, Ready, Counting, Success}
@@ -29,14 +33,14 @@ use Rattle.messages.specs.declared.Edition.the-variants.{Iso, Sae}
 use Rattle.messages.specs.declared.RunId.{RunId}
 use Rattle.rules.specs.Calls.{Call, frame, tick, pilot, terminate, linkUp}
 use Rattle.rules.specs.Events.{linkRule}
-use Rattle.rules.specs.Frames.{Kept, keeps, ownPlace, putBack, atRun, mayMatch, startRule, soundRule, profileRule, rspRule, firstRule, secondRule, atOwn, parmRule, changeRule, matchRule, stateRule, admitted}
+use Rattle.rules.specs.Frames.{Kept, keeps, ownPlace, putBack, atRun, mayMatch, startRule, soundRule, profileRule, rspRule, firstRule, secondRule, atOwn, parmRule, changeRule, matchRule, mapRule, stateRule, admitted}
 use Rattle.rules.specs.Records.{sameCar, sameRun, isEmpty, mine, freePlaces, reported, fitsGroups, groupsKept, counted}
 use Rattle.rules.specs.Sounds.{isIn}
 use Rattle.rules.specs.Validation.{firstResult}
 use Rattle.rules.specs.Constants.{soundsPerTry, pairOf, leastOutput}
 use Rattle.rules.specs.Replies.{reportOf}
 use Rattle.rules.specs.Ticks.{tickElapsed}
-use Rattle.rules.specs.Received.{RecordMessage, parmReq, start, sound, profile, rsp, validateFirst, validateSecond, Request, forRecord, matchReq, Received, receivedAs, received, isForUs}
+use Rattle.rules.specs.Received.{RecordMessage, parmReq, start, sound, profile, rsp, validateFirst, validateSecond, Request, forRecord, matchReq, mapReq, Received, receivedAs, messageAs, mapAs, mapIn, received, isForUs}
 use Rattle.rules.specs.Rules.{rule, outcome}
 use Rattle.rules.specs.Stations.{Shared, Inner, Done, shared, inner}
 
@@ -62,6 +66,10 @@ module _ {A : Type 0} where
 of-then : {A B : Type 0} (w : Checked A) (f : A → Checked B) → Fits w → ((x : A) → Fits (f x)) → Fits (andThen w f)
 of-then (no n) f h g = of-no n (h .fits n refl)
 of-then (yes x) f h g = g x
+
+of-else : {A B : Type 0} (w : Checked A) (f : A → Checked B) (y : Checked B) → Fits w → ((x : A) → Fits (f x)) → Fits y → Fits (orElse w f y)
+of-else (yes x) f y h g k = g x
+of-else (no n) f y h g k = on-cond Fits (eqb n 3) y (no n) (λ _. k) (λ _. of-no n (h .fits n refl))
 
 -- ---- reading
 
@@ -106,9 +114,46 @@ of-kind e slacMatchReq g d f vs = of-yes _
 of-kind e slacMatchCnf g d f vs = of-no 17 (omega arith)
 of-kind e attenProfileInd g d f vs = of-yes _
 
+-- ---- reading amplitude maps
+
+of-map-sized : {A : Type 0} (n : ℕ) (s : List ℕ) (w : Checked A) → Fits w → Fits (maps.sized n s w)
+of-map-sized n s w h =
+    of-check (leb n (length s)) 1 _ (omega arith)
+    (of-check (leb (length s) (paddedSize n)) 4 _ (omega arith)
+    (of-check (isAddressed (dstIn s) (srcIn s)) 5 w (omega arith) h))
+
+of-map-request : (n : ℕ) (s : List ℕ) → Fits (requestOf n s)
+of-map-request n s =
+    of-check (isCarriers n) 6 _ (omega arith)
+    (of-map-sized (filled (reqSize n)) s _
+    (of-check (eqb (getD (halves (mapOctets n s)) n 0) 0) 6 _ (omega arith) (of-yes _)))
+
+of-map-confirm : (s : List ℕ) → Fits (confirmRules s)
+of-map-confirm s = of-map-sized (filled cnfSize) s _ (of-check (ltb (value s (size head) cnfSize) resultLimit) 6 _ (omega arith) (of-yes _))
+
+of-map-type : (t : ℕ) (s : List ℕ) → Fits (maps.typeRules t s)
+of-map-type t s =
+    on-cond Fits (eqb t reqType) _ _
+    (λ _. of-check (leb (filled countSize) (length s)) 1 _ (omega arith) (of-map-request (lowValue s (size head) countSize) s))
+    (λ _. on-cond Fits (eqb t cnfType) _ _ (λ _. of-map-confirm s) (λ _. of-no 3 (omega arith)))
+
+of-map-reading : (s : List ℕ) → Fits (maps.readRules s)
+unfolding maps.readRules
+of-map-reading s = of-check (leb (size head) (length s)) 1 _ (omega arith) (of-check (holds 0 head s) 2 _ (omega arith) (of-map-type (typeIn s) s))
+
+of-summary : (w : Checked MapMessage) → Fits w → Fits (summaryOf w)
+of-summary (no n) h = of-no n (h .fits n refl)
+of-summary (yes m) h = of-yes _
+
+of-map : (x : Summary) → Fits (mapAs x)
+of-map (requested d f n) = of-yes _
+of-map (confirmed d f x) = of-no 17 (omega arith)
+
 of-received : (e : Edition) (s : List ℕ) → Fits (received e s)
 unfolding received
-of-received e s = of-then (readRules e s) (λ (m : Message). receivedAs (m .edition) (m .kind) (m .count) (m .dst) (m .src) (m .values)) (of-reading e s) (λ m. of-kind (m .edition) (m .kind) (m .count) (m .dst) (m .src) (m .values))
+of-received e s =
+    of-else (readRules e s) messageAs (mapIn (summaryOf (maps.readRules s))) (of-reading e s) (λ m. of-kind (m .edition) (m .kind) (m .count) (m .dst) (m .src) (m .values))
+    (of-then (summaryOf (maps.readRules s)) mapAs (of-summary (maps.readRules s) (of-map-reading s)) of-map)
 
 -- ---- at a record
 
@@ -204,13 +249,17 @@ of-match run own =
 -- ---- in a state
 
 of-state : (o : Configuration) (st : State) (rs : List Record) (c : CarAddress) (m : Request) → Fits (stateRule o st rs c m)
-unfolding stateRule
+unfolding stateRule mapRule
 of-state o Unmatched rs c m = of-no 8 (omega arith)
 of-state o (Matching t) rs c (forRecord m) = of-then (changeRule (o .edition) c m t (freePlaces rs) (firstResult (o .exempt) rs) (mine c rs)) _ (of-change (o .edition) c m t (freePlaces rs) (firstResult (o .exempt) rs) (mine c rs)) (λ x. of-yes _)
 of-state o (Matching t) rs c (matchReq run a b) = of-then (matchRule run (mine c rs)) _ (of-match run (mine c rs)) (λ x. of-yes _)
+of-state o (Matching t) rs c (mapReq n) = of-no 8 (omega arith)
 of-state o (Joining l d k) rs c (forRecord m) = of-no 8 (omega arith)
 of-state o (Joining l d k) rs c (matchReq run a b) = of-check (sameCar c d && sameRun run k) 11 _ (omega arith) (of-yes _)
-of-state o Matched rs c m = of-no 8 (omega arith)
+of-state o (Joining l d k) rs c (mapReq n) = of-no 8 (omega arith)
+of-state o (Matched d) rs c (forRecord m) = of-no 8 (omega arith)
+of-state o (Matched d) rs c (matchReq run a b) = of-no 8 (omega arith)
+of-state o (Matched d) rs c (mapReq n) = of-check (sameCar c d) 11 _ (omega arith) (of-check (eqb n (o .carriers)) 24 _ (omega arith) (of-yes _))
 
 of-admitted : (o : Configuration) (room : ℕ) (w : Checked Received) → Fits w → Fits (admitted o room w)
 unfolding admitted
@@ -228,7 +277,7 @@ unfolding linkRule
 of-link Unmatched rs = of-no 8 (omega arith)
 of-link (Matching a) rs = of-no 8 (omega arith)
 of-link (Joining l c run) rs = of-yes _
-of-link Matched rs = of-no 8 (omega arith)
+of-link (Matched c) rs = of-no 8 (omega arith)
 
 of-rule : (o : Shared) (i : Inner) (x : Call) → Fits (rule o i x)
 unfolding rule

@@ -19,4 +19,4 @@ EventsAreCalls = (s : List ℕ) (l : Log) → readRules s ≡ yes l → All (λ 
 
 -- the station of a bad configuration stays as it is, and records 16 to each call
 abbrev pub BadRefuses : Type 0
-BadRefuses = (c : Configuration) → isGood (c .address) (c .modem) (c .nid) ≡ false → (x : Call) → (step (stationOf c) x ≡ stationOf c) × (recorded (outcome (stationOf c) x) ≡ record { first = 16; second = 0; octets = [] })
+BadRefuses = (c : Configuration) → isGood (c .address) (c .modem) (c .nid) (c .carriers) ≡ false → (x : Call) → (step (stationOf c) x ≡ stationOf c) × (recorded (outcome (stationOf c) x) ≡ record { first = 16; second = 0; octets = [] })

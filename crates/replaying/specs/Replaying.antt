@@ -23,7 +23,7 @@ use Rattle.log.specs.Reading.{readRules}
 
 -- the station that a log's configuration gives: of a bad one too
 abbrev pub stationOf : Configuration → Station
-stationOf c = configured (c .address) (c .modem) (c .nid) (c .nmk) (eqb (c .exemption) 1) (editionOf (c .edition))
+stationOf c = configured (c .address) (c .modem) (c .nid) (c .nmk) (eqb (c .exemption) 1) (editionOf (c .edition)) (c .carriers)
 
 -- the call that an event of a script is
 abbrev pub callIn : Option Event → Option Call

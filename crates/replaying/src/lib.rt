@@ -85,7 +85,8 @@ pub fn station_of(configuration: Configuration) -> Station
     let nmk = configuration.nmk;
     let exemption = configuration.exemption;
     let edition = rules::edition_of(wide(configuration.edition));
-    let configured = rules::configure(address, modem, nid, nmk, exemption == 1, edition);
+    let carriers = configuration.carriers;
+    let configured = rules::configure(address, modem, nid, nmk, exemption == 1, edition, carriers);
     configured.station
 }
 

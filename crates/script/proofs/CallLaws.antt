@@ -11,6 +11,7 @@ use Rattle.ends.specs.declared.Answer.{Answer}
 use Rattle.ends.specs.Answers.{Summary, answerOf, summary, indicationNumber}
 use Rattle.ends.specs.Lists.{joins}
 use Rattle.ends.specs.Outcomes.{Outcome, framesOf, joined}
+use Rattle.ends.specs.Sending.{Says}
 use Rattle.rules.specs.Answers as station
 use Rattle.rules.specs.Calls as stationCalls
 use Rattle.rules.specs.Invariant as stationKept
@@ -73,6 +74,10 @@ of-station h = record { left = h .station; answer = h .answer; octets = h .octet
 
 pub of-car : {c : Car} {x : carCalls.Call} {entry exit : List ℕ} {t : carStepped.Stepped} → car.Answers c x entry exit t → Gives carKept.Invariant (carRules.step c x) (carRules.outcome c x) entry exit (t .car) (t .answer)
 of-car h = record { left = h .car; answer = h .answer; octets = h .octets; kept = h .kept }
+
+-- what changes no station
+pub of-said : {s : Station} {y : Outcome} {entry exit : List ℕ} {a : Answer} → stationKept.Invariant s → Says y entry exit a → Gives stationKept.Invariant s y entry exit s a
+of-said k h = record { left = refl; answer = h .answer; octets = h .octets; kept = k }
 
 module _ {S : Type 0} {Kept : S → Type 0} {last t : S} {y : Outcome} {part back : List ℕ} {a : Answer} (g : Gives Kept last y part back t a) where
   -- the frames fit in the part that was lent

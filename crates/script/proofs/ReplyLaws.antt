@@ -13,11 +13,11 @@ use Rattle.messages.specs.Table.{groupCount}
 use Rattle.messages.specs.declared.Refusal.{Refusal}
 use Rattle.rules.specs.declared.HeardAnswer.the-variants.{Refused, Heard}
 use Rattle.rules.specs.declared.Queried.{Queried}
-use Rattle.rules.specs.Rules.{Told}
+use Rattle.rules.specs.Rules.{Told, Inspected}
 use Rattle.rules.specs.Answers.{Tells}
 use Rattle.car_rules.specs.declared.Key.{Key}
 use Rattle.script.specs.Events.{mostOctets}
-use Rattle.script.specs.Replies.{number, replyOctets, longestReply, replyHead, replyWith, toldOctets, keyOctets}
+use Rattle.script.specs.Replies.{number, replyOctets, longestReply, replyHead, replyWith, toldOctets, inspectedOctets, keyOctets}
 use Rattle.script.specs.Private.{Answered, toldBy, Replied}
 use Rattle.script.proofs.OutputLaws.{length-head, put-behind}
 
@@ -74,6 +74,16 @@ module _ (t : Told) (least : length (t .spread .least) ≡ groupCount) (greatest
   told-length =
       length-append (number (t .sounds)) (t .spread .least ++ t .spread .greatest)
       ∙ ap₂ (λ (i j : ℕ). i + j) (length-low 4 (t .sounds)) (length-append (t .spread .least) (t .spread .greatest) ∙ ap₂ (λ (i j : ℕ). i + j) least greatest)
+
+-- what the inspection tells, one number behind the other
+module _ (x : Inspected) where
+  pub inspected-put : (d : List ℕ) → sets (sets d replyOctets (number (x .state))) (replyOctets + 4) (bytes 6 (x .car .0)) ≡ sets d replyOctets (inspectedOctets x)
+  unfolding bytes lowBytes
+  inspected-put d = refl
+
+  pub inspected-length : length (inspectedOctets x) ≡ 10
+  unfolding bytes lowBytes
+  inspected-length = refl
 
 -- a key, one number behind the other
 pub key-put : (d : List ℕ) (k : Key)

@@ -1,9 +1,10 @@
 -- The layout of the station's script: its head and its events.
-use Prim.Native.Nat.{ℕ}
-use mathlib.Core.Bool.{Bool, _&&_}
-use mathlib.Core.List.{List, [], _∷_}
+use Prim.Native.Nat.{ℕ, zero, suc, _+_, _*_, _-_, _/_, _%_, _^_}
+use mathlib.Core.Bool.{Bool, cond, _&&_}
+use mathlib.Core.List.{List, [], _∷_, _++_}
 use mathlib.Core.Option.{Option, some}
-use lib.Dec.{eqb, ltb}
+use lib.Dec.{eqb, leb, ltb}
+use lib.IntN.{ℤ, pos, _-ℤ_}
 use lib.ListN.{length}
 use Rattle.messages.specs.declared.CarAddress.{CarAddress}
 use Rattle.messages.specs.declared.Edition.{Edition}
@@ -11,11 +12,11 @@ use Rattle.messages.specs.declared.ModemAddress.{ModemAddress}
 use Rattle.messages.specs.declared.Nid.{Nid}
 use Rattle.messages.specs.declared.Nmk.{Nmk}
 use Rattle.messages.specs.declared.StationAddress.{StationAddress}
-use Rattle.octets.specs.Octets.{value, lowValue}
+use Rattle.octets.specs.Octets.{value, lowValue, part}
 use Rattle.rules.specs.Calls.{Call, frame, tick, pilot, terminate, linkUp}
 use Rattle.rules.specs.Numbers.{pilotOf, editionOf}
 use Rattle.script.specs.Events as events
-use Rattle.script.specs.Events.{call, query, given}
+use Rattle.script.specs.Events.{mostOctets, call, query, given}
 
 -- ---- the head
 
@@ -59,15 +60,25 @@ isSetting n = ltb n 2
 abbrev pub isHead : List ℕ → Bool
 isHead h = isSetting (exemptionIn h) && isSetting (editionNumberIn h)
 
+-- our carriers, any number
+abbrev pub carriersIn : List ℕ → ℕ
+carriersIn h = lowValue h 43 4
+
 -- the number of events
 abbrev pub countIn : List ℕ → ℕ
-countIn h = lowValue h 43 4
+countIn h = lowValue h 47 4
 
 -- ---- an event
 
--- a call of the station, or the service query for a car
+-- what changes no station: the service query for a car, the reduction call with values, levels and the octets of its slice, or the inspection
+pub data Question : Type 0 where
+  service : CarAddress → Question
+  reduction : List ℕ → List ℤ → ℕ → Question
+  inspection : Question
+
+-- a call of the station, or one of these
 abbrev pub Event : Type 0
-Event = events.Event Call CarAddress
+Event = events.Event Call Question
 
 -- a pilot event's octets: one, the number of the pilot state, 0 to 5 for A to F
 abbrev pub pilotIn : ℕ → List ℕ → Option Event
@@ -75,9 +86,50 @@ pilotIn t s = given (eqb (length s) 1 && ltb (value s 0 1) 6) (call (pilot (pilo
 
 -- a service query's octets: six, the car's address
 abbrev pub queryIn : List ℕ → Option Event
-queryIn s = given (eqb (length s) 6) (query (record { 0 = value s 0 6 }))
+queryIn s = given (eqb (length s) 6) (query (service (record { 0 = value s 0 6 })))
 
--- the events of kinds 0 to 5 with the reading t, the room and the octets s
+-- the level that a number of two octets stands for: a signed number of 16 binary digits
+unfoldable pub levelOf : ℕ → ℤ
+levelOf n = cond (ltb n (2 ^ 15)) (pos n) (pos n -ℤ pos (2 ^ 16))
+
+-- the n levels that stand in s from `at`, "two octets each, low octet first"
+unfoldable pub levelsAt : List ℕ → ℕ → ℕ → List ℤ
+levelsAt s at zero = []
+levelsAt s at (suc n) = levelsAt s at n ++ (levelOf (lowValue s (at + 2 * n) 2) ∷ [])
+
+-- how many octets stand in front of a reduction's values: their number
+abbrev pub valuesStart : ℕ
+valuesStart = 4
+
+-- the number of values
+abbrev pub valueCountIn : List ℕ → ℕ
+valueCountIn s = lowValue s 0 4
+
+-- where the levels start: behind the values
+abbrev pub levelsStartIn : List ℕ → ℕ
+levelsStartIn s = valuesStart + valueCountIn s
+
+-- how many octets the levels have: what is left
+abbrev pub levelOctetsIn : List ℕ → ℕ
+levelOctetsIn s = length s - levelsStartIn s
+
+-- the values, one octet each
+abbrev pub valuesIn : List ℕ → List ℕ
+valuesIn s = part s valuesStart (valueCountIn s)
+
+-- the levels: as many as there are pairs of octets left
+abbrev pub levelsIn : List ℕ → List ℤ
+levelsIn s = levelsAt s (levelsStartIn s) (levelOctetsIn s / 2)
+
+-- whether octets are a reduction's: as many values as the number says, no more octets than an event has, and pairs of them behind the values
+abbrev pub isReduction : List ℕ → Bool
+isReduction s = leb (levelsStartIn s) (length s) && leb (length s) mostOctets && eqb (levelOctetsIn s % 2) 0
+
+-- a reduction's octets: the number of values, the values and the levels; its room is the slice's length
+abbrev pub reductionIn : ℕ → List ℕ → Option Event
+reductionIn room s = given (isReduction s) (query (reduction (valuesIn s) (levelsIn s) room))
+
+-- the events of kinds 0 to 7 with the reading t, the room and the octets s
 unfoldable pub kinds : ℕ → ℕ → List ℕ → List (Option Event)
 kinds t room s =
     some (call (frame s room))
@@ -86,4 +138,6 @@ kinds t room s =
     ∷ given (eqb (length s) 0) (call terminate)
     ∷ given (eqb (length s) 0) (call linkUp)
     ∷ queryIn s
+    ∷ reductionIn room s
+    ∷ given (eqb (length s) 0) (query inspection)
     ∷ []

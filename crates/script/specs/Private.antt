@@ -1,5 +1,5 @@
 -- What the contracts of private functions cite, and no public one.
-use Prim.Native.Nat.{ℕ, _+_, _≤_}
+use Prim.Native.Nat.{ℕ, _+_, _/_, _≤_}
 use mathlib.Core.Path.{_≡_}
 use mathlib.Core.List.{List}
 use lib.ListN.{length}
@@ -52,6 +52,10 @@ pub record Fits (x : Checked Summary) (out : List ℕ) : Type 0 where
 pub record Answered (x : Checked Summary) (entry exit : List ℕ) (n : ℕ) : Type 0 where
   pub octets : n ≡ replyOctets + frameOctets x
   pub output : exit ≡ splice 0 (headOf x) entry
+
+-- how many levels an event's octets hold at most
+abbrev pub mostLevels : ℕ
+mostLevels = mostOctets / 2
 
 -- what the service query's answer tells
 abbrev pub toldBy : Queried → Checked Told

@@ -5,7 +5,7 @@ use lib.ListN.{length}
 use Rattle.octets.specs.Octets.{bytes, lowBytes}
 use Rattle.car_rules.specs.declared.Key.{Key}
 use Rattle.messages.specs.Reading.{Checked, no, yes}
-use Rattle.rules.specs.Rules.{Told}
+use Rattle.rules.specs.Rules.{Told, Inspected}
 use Rattle.ends.specs.Outcomes.{Outcome, joined}
 use Rattle.ends.specs.Answers.{indicationNumber}
 use Rattle.script.specs.Events.{mostOctets}
@@ -38,6 +38,10 @@ callReply (yes x) = replyWith 0 (indicationNumber (x .indication)) (joined (x .f
 -- what a service query's reply holds: the sounds heard as a number, the least values, and then the greatest
 abbrev pub toldOctets : Told → List ℕ
 toldOctets t = number (t .sounds) ++ (t .spread .least ++ t .spread .greatest)
+
+-- what an inspection's reply holds: the state as a number, and the car as in frames
+abbrev pub inspectedOctets : Inspected → List ℕ
+inspectedOctets x = number (x .state) ++ bytes 6 (x .car .0)
 
 -- what a key query's reply holds: the station, its NID, low octet first, and its NMK
 abbrev pub keyOctets : Key → List ℕ

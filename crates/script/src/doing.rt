@@ -2,6 +2,7 @@
 use crate::Happened;
 use crate::REPLY_OCTETS;
 use crate::events::EventHead;
+use crate::reductions;
 use crate::replies;
 use messages::CarAddress;
 use rules::Station;
@@ -13,8 +14,8 @@ ghost use lib.ListN.{length, getD};
 ghost use Rattle.rules.specs.Calls as calls;
 ghost use Rattle.rules.specs.Invariant.{Invariant};
 ghost use Rattle.ends.specs.Answers.{answerOf};
-ghost use Rattle.script.specs.Events.{call, given};
-ghost use Rattle.script.specs.Layout.{pilotIn, queryIn, kinds};
+ghost use Rattle.script.specs.Events.{call, query, given};
+ghost use Rattle.script.specs.Layout.{inspection, pilotIn, queryIn, reductionIn, kinds};
 ghost use Rattle.script.specs.Promises.{Happens};
 ghost use Rattle.script.specs.Private.{Ready, RoomReady, Stays, Fits, Answered};
 
@@ -119,6 +120,40 @@ fn query(station: Station, octets: &[u8], out: &mut [u8]) -> Happened
     }
 }
 
+// A reduction has its values and our levels: the part of the output behind the reply's first octets is lent.
+fn reduction(station: Station, octets: &[u8], room: usize, out: &mut [u8]) -> Happened
+    requires { ⌜ RoomReady (Invariant station) room (now out) ⌝ }
+    ensures { λ r. ⌜ Happens station (reductionIn room (now (octets .entry))) (now (out .entry)) (now (out .exit)) r ⌝ }
+{
+    if !reductions::is_reduction(octets) {
+        return nothing(station);
+    }
+    let end = REPLY_OCTETS + room;
+    let answer = reductions::reduce(octets, &mut out[REPLY_OCTETS..end]);
+    let stepped = Stepped {
+        station: station,
+        answer: answer,
+    };
+    reply(stepped, out)
+}
+
+// An inspection has no octets.
+fn inspection(station: Station, octets: &[u8], out: &mut [u8]) -> Happened
+    requires { ⌜ Ready (Invariant station) (now out) ⌝ }
+    ensures { λ r. ⌜ Happens station (given (eqb (length (now (octets .entry))) 0) (query inspection)) (now (out .entry)) (now (out .exit)) r ⌝ }
+{
+    if octets.len() != 0 {
+        return nothing(station);
+    }
+    let config = station.config;
+    let state = station.state;
+    let size = replies::put_inspected(out, rules::inspect(config, state));
+    Happened {
+        station: station,
+        octets: size,
+    }
+}
+
 // The event of a kind.
 pub(crate) fn of_kind(station: Station, head: EventHead, octets: &[u8], out: &mut [u8]) -> Happened
     requires { ⌜ RoomReady (Invariant station) (head .room) (now out) ⌝ }
@@ -134,6 +169,8 @@ pub(crate) fn of_kind(station: Station, head: EventHead, octets: &[u8], out: &mu
         3 => terminate(station, octets, out),
         4 => link_up(station, octets, out),
         5 => query(station, octets, out),
+        6 => reduction(station, octets, room, out),
+        7 => inspection(station, octets, out),
         _ => nothing(station),
     }
 }

@@ -4,6 +4,7 @@ mod doing;
 mod events;
 mod numbers;
 pub mod of_car;
+mod reductions;
 mod replies;
 
 use events::EventHead;
@@ -20,8 +21,8 @@ ghost use Rattle.script.specs.Events.{lengthIn};
 ghost use Rattle.script.specs.Layout.{countIn, kinds};
 ghost use Rattle.script.specs.Promises.{Starts, Happens};
 
-// How many octets the head takes: two addresses, NID, NMK, the exemption, the edition and the number of events.
-pub const HEAD_OCTETS: usize = 47;
+// How many octets the head takes: two addresses, NID, NMK, the exemption, the edition, our carriers and the number of events.
+pub const HEAD_OCTETS: usize = 51;
 
 // How many octets stand in front of an event's own: kind, reading, room and length.
 pub const EVENT_OCTETS: usize = 16;
@@ -65,6 +66,7 @@ pub fn start(head: &[u8]) -> Started
     );
     let exemption = octets::low_number_at(head, 35, 4);
     let edition = octets::low_number_at(head, 39, 4);
+    let carriers = octets::low_number_at(head, 43, 4) as u32;
     let configured = rules::configure(
         address,
         modem,
@@ -72,6 +74,7 @@ pub fn start(head: &[u8]) -> Started
         nmk,
         exemption == 1,
         rules::edition_of(edition),
+        carriers,
     );
     let station = configured.station;
     let answer = configured.answer;
@@ -87,7 +90,7 @@ pub fn start(head: &[u8]) -> Started
 pub fn event_count(head: &[u8]) -> u64
     ensures { λ r. ⌜ r ≡ countIn (now (head .entry)) ⌝ }
 {
-    octets::low_number_at(head, 43, 4)
+    octets::low_number_at(head, 47, 4)
 }
 
 // How many octets follow an event's first ones.

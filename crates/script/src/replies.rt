@@ -3,9 +3,11 @@ use crate::REPLY_OCTETS;
 use car_rules::Key;
 use car_rules::KeyAnswer;
 use ends::Answer;
+use messages::CarAddress;
 use messages::GROUPS;
 use messages::Refusal;
 use rules::HeardAnswer;
+use rules::Inspection;
 use rules::Queried;
 use rules::Spread;
 ghost use mathlib.Core.Path.{_≡_};
@@ -16,7 +18,8 @@ ghost use Rattle.octets.specs.Octets.{splice};
 ghost use Rattle.ends.specs.Answers.{answerOf};
 ghost use Rattle.car_rules.specs.Answers.{keyOf};
 ghost use Rattle.messages.specs.Answers.{numberOf};
-ghost use Rattle.script.specs.Replies.{replyOctets, longestReply, replyHead, toldOctets, keyOctets, queryReply, refusalNumber};
+ghost use Rattle.rules.specs.Answers.{inspectedOf};
+ghost use Rattle.script.specs.Replies.{replyOctets, longestReply, replyHead, toldOctets, inspectedOctets, keyOctets, queryReply, refusalNumber};
 ghost use Rattle.script.specs.Private.{Fits, Answered, toldBy, Replied};
 
 // How many octets a key takes: the station's address, NID and NMK.
@@ -24,6 +27,9 @@ const KEY_OCTETS: usize = 29;
 
 // How many octets what the service query tells takes: the sounds heard, the least and the greatest values.
 const TOLD_OCTETS: usize = 4 + 2 * GROUPS;
+
+// How many octets what the inspection tells takes: the state and the car.
+const INSPECTED_OCTETS: usize = 10;
 
 // The number of an answer's refusal, or 0.
 pub(crate) fn refusal_of(answer: Answer) -> u32
@@ -128,6 +134,29 @@ pub(crate) fn put_told(out: &mut [u8], queried: Queried) -> usize
             put_head(out, 0, 0, TOLD_OCTETS);
             put_told_octets(out, sounds, spread);
             REPLY_OCTETS + TOLD_OCTETS
+        }
+    }
+}
+
+// Writes the octets of what the inspection tells behind a reply's first ones: the state and the car.
+fn put_inspected_octets(out: &mut [u8], state: u32, car: CarAddress)
+    ensures { λ _. ⌜ now (out .exit) ≡ sets (now (out .entry)) replyOctets (inspectedOctets (record { state = state; car = car })) ⌝ }
+{
+    octets::put_low_number(out, REPLY_OCTETS, 4, state as u64);
+    octets::put_number(out, REPLY_OCTETS + 4, 6, car.0);
+}
+
+// Writes the reply to the inspection, and gives its length.
+pub(crate) fn put_inspected(out: &mut [u8], inspection: Inspection) -> usize
+    requires { ⌜ longestReply ≤ length (now out) ⌝ }
+    ensures { λ r. ⌜ Replied (queryReply inspectedOctets (inspectedOf inspection)) (now (out .entry)) (now (out .exit)) r ⌝ }
+{
+    match inspection {
+        Inspection::Refused(refusal) => put_refusal(out, refusal),
+        Inspection::At { state, car } => {
+            put_head(out, 0, 0, INSPECTED_OCTETS);
+            put_inspected_octets(out, state, car);
+            REPLY_OCTETS + INSPECTED_OCTETS
         }
     }
 }

@@ -48,9 +48,17 @@ number-in-requires-2 c κs = search needs
 cast-t16 : tie.Need-cast-t16
 cast-t16 c = search needs
 
+add-number-in-3 : tie.Need-add-number-in-3
+add-number-in-3 c = search needs
+
+number-in-requires-3 : tie.Need-number-in-requires-3
+number-in-requires-3 c κs = search needs
+
+cast-t19 : tie.Need-cast-t19
+cast-t19 c = search needs
+
 returns : tie.Need-returns
-returns c =
-    rw (c .before .before .before .before .number-at3 .ensures, c .before .before .before .number-at4 .ensures, c .before .before .low-number-at .ensures, c .before .before .before .before .before .before .number-at .ensures, c .before .before .before .before .before .number-at2 .ensures, c .before .number-in .ensures .0, c .number-in2 .ensures .0)
+returns c = rw (c .before .before .before .before .before .number-at3 .ensures, c .before .before .before .before .number-at4 .ensures, c .before .before .before .low-number-at .ensures, c .before .before .before .before .before .before .before .number-at .ensures, c .before .before .before .before .before .before .number-at2 .ensures, c .before .before .number-in .ensures .0, c .before .number-in2 .ensures .0, c .number-in3 .ensures .0)
 
 pub configuration-in-spec : {M : Type 1} → statement M
 configuration-in-spec =
@@ -71,4 +79,7 @@ configuration-in-spec =
     add-number-in-2
     number-in-requires-2
     cast-t16
+    add-number-in-3
+    number-in-requires-3
+    cast-t19
     returns)

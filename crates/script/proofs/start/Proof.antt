@@ -2,6 +2,8 @@
 use Prim.Native.Nat.{ℕ}
 use mathlib.Core.Path.{ap₂}
 use mathlib.Core.Bool.{_&&_}
+use native.Mathlib.Omega.{arith}
+use Rattle.octets.proofs.OctetLaws.{low-lt}
 use Rattle.script.specs.Layout.{isSetting}
 use Rattle.script.proofs.EventLaws.{started}
 use borrow.Author.Needs.{needs}
@@ -29,6 +31,12 @@ low-number-at-requires-2 c κs = search needs
 low-number-at-requires-3 : tie.Need-low-number-at-requires-3
 low-number-at-requires-3 c κs = search needs
 
+low-number-at-requires-4 : tie.Need-low-number-at-requires-4
+low-number-at-requires-4 c κs = search needs
+
+cast-carriers : tie.Need-cast-carriers
+cast-carriers c = omega (arith, c .low-number-at4 .ensures, low-lt (c .before .before .before .before .before .before .before .before .before .args .head .now) 43 4 (λ i. c .before .before .before .before .before .before .before .before .shared-slice-known .given i .fits))
+
 edition-of-requires : tie.Need-edition-of-requires
 edition-of-requires c κs = search needs
 
@@ -47,11 +55,11 @@ octets-of-requires c κs = search needs
 returns : tie.Need-returns
 returns c =
     let g = c .before .before .before .configure .ensures in
-    let exemption = c .before .before .before .before .before .before .low-number-at2 .ensures in
-    let edition = c .before .before .before .before .before .low-number-at3 .ensures in
+    let exemption = c .before .before .before .before .before .before .before .low-number-at2 .ensures in
+    let edition = c .before .before .before .before .before .before .low-number-at3 .ensures in
     record {
       starts =
-          rw (← c .before .before .before .before .before .before .before .before .before .before .before .number-at .ensures, ← c .before .before .before .before .before .before .before .before .before .before .number-at2 .ensures, ← c .before .before .before .before .before .before .before .before .before .low-number-at .ensures, ← c .before .before .before .before .before .before .before .before .number-at3 .ensures, ← c .before .before .before .before .before .before .before .number-at4 .ensures, ← exemption, ← edition, ← c .before .before .before .before .edition-of .ensures)
+          rw (← c .before .before .before .before .before .before .before .before .before .before .before .before .number-at .ensures, ← c .before .before .before .before .before .before .before .before .before .before .before .number-at2 .ensures, ← c .before .before .before .before .before .before .before .before .before .before .low-number-at .ensures, ← c .before .before .before .before .before .before .before .before .before .number-at3 .ensures, ← c .before .before .before .before .before .before .before .before .number-at4 .ensures, ← exemption, ← edition, ← c .before .before .before .before .before .low-number-at4 .ensures, ← c .before .before .before .before .edition-of .ensures)
           (started (g .station) (g .answer) (g .kept) (c .before .refusal-of .ensures) (c .octets-of .ensures));
       on = ap₂ (λ (m n : ℕ). isSetting m && isSetting n) exemption edition;
     }
@@ -67,6 +75,8 @@ start-spec =
     number-at-requires-4
     low-number-at-requires-2
     low-number-at-requires-3
+    low-number-at-requires-4
+    cast-carriers
     edition-of-requires
     configure-requires
     refusal-of-requires

@@ -1,4 +1,5 @@
 -- By the kind.
+use Prim.Native.Nat.{_≤_}
 use mathlib.Core.Option.{none}
 use native.Mathlib.Omega.{arith}
 use lib.ListN.{List·getD-eq-default}
@@ -25,6 +26,12 @@ link-up-requires c κs = search needs
 
 query-requires : tie.Need-query-requires
 query-requires c κs = search needs
+
+reduction-requires : tie.Need-reduction-requires
+reduction-requires c κs = search needs
+
+inspection-requires : tie.Need-inspection-requires
+inspection-requires c κs = search needs
 
 nothing-requires : tie.Need-nothing-requires
 nothing-requires c κs = search needs
@@ -71,11 +78,28 @@ returns-6 : tie.Need-returns-6
 unfolding kinds
 returns-6 c = rw (c .before .before .before .before .match .keys6) (c .before .before .query .ensures)
 
+same-length-7 : tie.Need-same-length-7
+same-length-7 c = search needs
+
 returns-7 : tie.Need-returns-7
 unfolding kinds
-returns-7 c =
+returns-7 c = rw (c .before .before .before .before .match .keys7) (c .before .before .reduction .ensures)
+
+same-length-8 : tie.Need-same-length-8
+same-length-8 c = search needs
+
+returns-8 : tie.Need-returns-8
+unfolding kinds
+returns-8 c = rw (c .before .before .before .before .match .keys8) (c .before .before .inspection .ensures)
+
+returns-9 : tie.Need-returns-9
+unfolding kinds
+returns-9 c =
     let s = c .before .before .before .before in
-    rw (List·getD-eq-default (kinds (s .args .head .reading) (s .args .head .room) (s .args .octets .now)) none {n = s .args .head .kind} (omega arith))
+    let r = c .before .match .rest in
+    let low : 4 ≤ s .args .head .kind = omega (arith, r .0 .0 .0 .0 .1, r .0 .0 .0 .0 .0 .1, r .0 .0 .0 .0 .0 .0 .1, r .0 .0 .0 .0 .0 .0 .0 .1) in
+    let over : 8 ≤ s .args .head .kind = omega (arith, low, r .1, r .0 .1, r .0 .0 .1, r .0 .0 .0 .1) in
+    rw (List·getD-eq-default (kinds (s .args .head .reading) (s .args .head .room) (s .args .octets .now)) none {n = s .args .head .kind} over)
     (nothing-done (s .pre .ready .kept) (c .nothing .ensures))
 
 pub of-kind-spec : {M : Type 1} → statement M
@@ -88,6 +112,8 @@ of-kind-spec =
     terminate-requires
     link-up-requires
     query-requires
+    reduction-requires
+    inspection-requires
     nothing-requires
     same-length
     returns
@@ -101,4 +127,8 @@ of-kind-spec =
     returns-5
     same-length-6
     returns-6
-    returns-7)
+    same-length-7
+    returns-7
+    same-length-8
+    returns-8
+    returns-9)
