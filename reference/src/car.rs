@@ -346,7 +346,7 @@ impl Config {
 
 impl State {
     /// "PARM.CNF is taken in Asking, Confirmed and Sounding, ATTEN_CHAR.IND in Sounding and
-    /// Requesting, MATCH.CNF in Requesting"; VALIDATE.CNF in none.
+    /// Requesting, MATCH.CNF in Requesting"; VALIDATE.CNF and amplitude maps in none.
     fn takes(&self, kind: Kind) -> bool {
         match self {
             State::Asking { .. } | State::Confirmed { .. } => kind == Kind::ParmCnf,
@@ -383,7 +383,7 @@ fn run_for_a_car(body: &Body) -> Result<Option<RunId>, Refusal> {
         Body::ParmCnf { run, .. } | Body::AttenChar { run, .. } | Body::MatchCnf { run, .. } => {
             Ok(Some(*run))
         }
-        Body::ValidateCnf { .. } => Ok(None),
+        Body::ValidateCnf { .. } | Body::AmpMapReq { .. } | Body::AmpMapCnf { .. } => Ok(None),
         Body::ParmReq { .. }
         | Body::StartAttenChar { .. }
         | Body::MnbcSound { .. }

@@ -11,12 +11,14 @@ use std::fmt;
 const STATES: [&str; 7] =
     ["Idle", "Asking", "Confirmed", "Sounding", "Requesting", "Joining", "Matched"];
 
-/// The messages that a car receives, and the states that take them.
-const TAKEN: [(Kind, &[&str]); 4] = [
+/// The messages that aren't for a station alone, and the states that take them.
+const TAKEN: [(Kind, &[&str]); 6] = [
     (Kind::ParmCnf, &["Asking", "Confirmed", "Sounding"]),
     (Kind::AttenChar, &["Sounding", "Requesting"]),
     (Kind::ValidateCnf, &[]),
     (Kind::MatchCnf, &["Requesting"]),
+    (Kind::AmpMapReq, &[]),
+    (Kind::AmpMapCnf, &[]),
 ];
 
 /// The times that run down.
@@ -51,7 +53,13 @@ const ACCEPTED: [&str; 25] = [
     "MATCH.CNF in Requesting",
 ];
 
-const REFUSED: [&str; 26] = [
+const REFUSED: [&str; 32] = [
+    "7 AMP_MAP.REQ, not to us",
+    "7 AMP_MAP.REQ, from us",
+    "7 AMP_MAP.CNF, not to us",
+    "7 AMP_MAP.CNF, from us",
+    "15 AMP_MAP.REQ",
+    "15 AMP_MAP.CNF",
     "7 PARM.CNF, not to us",
     "7 PARM.CNF, from us",
     "7 ATTEN_CHAR.IND, not to us",
@@ -103,6 +111,7 @@ const CHOICES: [&str; 15] = [
 ];
 
 /// The car's table.
+#[derive(Clone)]
 pub struct Counts {
     table: Table,
     config: Config,
@@ -171,6 +180,11 @@ impl Counts {
         }
         row("5 damaged", "no known type");
         Counts { table, config, ended: "start, the first".into(), stuck: false }
+    }
+
+    /// How many rows are reached.
+    pub fn reached(&self) -> usize {
+        self.table.reached()
     }
 
     pub fn configured(&mut self, answer: Result<(), Refusal>) {

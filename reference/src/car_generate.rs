@@ -1,8 +1,11 @@
 //! Random scripts for a car: several stations on a line that loses, delays and damages frames.
 
+use crate::amplitude;
 use crate::car::{Car, Config, Network, State};
+use crate::car_count::Counts;
 use crate::car_script::{write_head, Event};
-use crate::messages::{Address, Body, Edition, Groups, Message, Nid, Nmk, RunId, Try};
+use crate::messages::MOST_CARRIERS;
+use crate::messages::{Address, Body, Edition, Groups, Kind, Message, Nid, Nmk, RunId, Try};
 use crate::random::Random;
 use std::io::{self, Write};
 
@@ -16,6 +19,7 @@ enum Silence {
 }
 
 /// What an episode from start to start is like.
+#[derive(Clone)]
 struct Mood {
     stations: usize,    // how many of the stations are on the line
     pace: usize,        // the longest usual tick
@@ -41,6 +45,7 @@ const HIGHEST_TOTAL: u32 = 14_790;
 const LONGEST_LINE: usize = 40;
 
 /// Makes events, steered by a car of its own.
+#[derive(Clone)]
 struct Generator {
     random: Random,
     config: Config,
@@ -68,7 +73,50 @@ pub fn generate(seed: u64, events: u32, script: &mut impl Write) -> io::Result<(
     Ok(())
 }
 
+/// `car-cover` tries so many ways on, each of so many events at most.
+const TRIES: usize = 32;
+const STRETCH: usize = 64;
+
+/// `car-cover SEED EVENTS`: as `car-generate` with a good configuration, but of several ways on it
+/// takes the one that reaches most rows of the table.
+pub fn cover(seed: u64, events: u32, script: &mut impl Write) -> io::Result<()> {
+    let mut generator = Generator::new(Random::new(seed));
+    let mut counts = Counts::new(generator.config);
+    write_head(script, &generator.config, events)?;
+    let mut left = usize::try_from(events).map_err(io::Error::other)?;
+    while left > 0 {
+        let longest = 1 + generator.random.below(STRETCH);
+        let length = (1 + generator.random.below(longest)).min(left);
+        let seeds: [u64; TRIES] = std::array::from_fn(|_| generator.random.next());
+        let tries = seeds.into_iter().map(|seed| generator.go_on(seed, length, &counts));
+        let Some(best) = tries.max_by_key(|(_, counts, _)| counts.reached()) else { break };
+        let stretch;
+        (generator, counts, stretch) = best;
+        stretch.iter().try_for_each(|event| event.write(script))?;
+        left -= length;
+    }
+    Ok(())
+}
+
 impl Generator {
+    /// One way on: so many events by another seed.
+    fn go_on(&self, seed: u64, length: usize, counts: &Counts) -> (Generator, Counts, Vec<Event>) {
+        let mut generator = Generator { random: Random::new(seed), ..self.clone() };
+        let mut counts = counts.clone();
+        let stretch = (0..length).map(|_| {
+            let event = generator.event();
+            let before = generator.car.clone();
+            let outcome = event.happen(&mut generator.car);
+            counts.event(&event, &before, &generator.car, &outcome);
+            if let Ok((_, octets)) = &outcome {
+                generator.hear(octets);
+            }
+            event
+        });
+        let stretch = stretch.collect();
+        (generator, counts, stretch)
+    }
+
     fn new(mut random: Random) -> Generator {
         let any = random.below(256) as u32;
         let reference = random.pick(&[0, 0, 26, 26, 26, any, 1, 235, 236, 245, 246, 255], any);
@@ -316,7 +364,27 @@ impl Generator {
         groups
     }
 
+    /// An amplitude map, mostly to us, of a few carriers or now and then of all.
+    fn map_frame(&mut self) -> Event {
+        let (us, station, other) =
+            (self.config.car, self.station().station, self.random.unicast(0xCC));
+        let ends = [(station, us), (station, us), (station, us), (station, other), (us, station)];
+        let (source, destination) = self.random.pick(&ends, ends[0]);
+        let few = 1 + self.random.below(90);
+        let carriers = if self.random.chance(3) { usize::from(MOST_CARRIERS) } else { few };
+        let values: Vec<u8> = (0..carriers).map(|_| self.random.below(16) as u8).collect();
+        let mut octets = vec![0; 599];
+        let written = amplitude::write(source, destination, &values, &mut octets);
+        octets.truncate(written.unwrap_or(0));
+        let (kind, ours) = (Kind::AmpMapReq, [us, station]);
+        self.random.change(&mut octets, kind, carriers as u16, 2 * self.mood.damage, ours);
+        Event::Frame { octets, room: self.room() }
+    }
+
     fn frame(&mut self) -> Event {
+        if self.random.chance(5) {
+            return self.map_frame();
+        }
         let message = match self.random.below(100) {
             0..=58 => self.next_message(),
             59..=79 => self.any_message(),
@@ -360,7 +428,7 @@ impl Generator {
         let Network { station, nid, nmk } = self.station();
         let takes_none =
             matches!(self.car.state, State::Idle | State::Joining { .. } | State::Matched { .. });
-        let kind = self.random.below(if takes_none { 6 } else { 4 });
+        let kind = self.random.below(if takes_none { 7 } else { 5 });
         let silence = self.mood.silence;
         let silent = [Silence::Confirming, Silence::Reporting, Silence::Matching];
         let is_silent = silent.get(kind).is_some_and(|from| silence <= *from);
@@ -372,6 +440,7 @@ impl Generator {
             0 => Body::ParmCnf { run, attempt: Try::Iso },
             1 => self.report(run),
             2 => Body::match_cnf(run, nid, nmk),
+            3 => Body::AmpMapCnf { result: self.random.below(2) as u8 },
             _ => {
                 let result = self.random.below(5) as u8;
                 Body::ValidateCnf { toggles: self.random.next() as u8, result }

@@ -6,7 +6,7 @@ use crate::messages::{Address, Body, Edition, Message, Nid, Nmk, RunId, Try};
 use crate::refusal::Refusal;
 use crate::script::{self, write_entry};
 use crate::station::{self, Pilot, Station};
-use crate::{car_count, car_generate, compare};
+use crate::{amplitude, car_count, car_generate, compare};
 
 const fn address(last: u8) -> Address {
     Address([2, 0, 0, 0, 0, last])
@@ -690,6 +690,52 @@ fn no_state_takes_a_validate_confirmation() {
 }
 
 #[test]
+fn no_state_takes_an_amplitude_map() {
+    let request = |source: Address, destination: Address, values: &[u8]| {
+        let mut frame = vec![0; 599];
+        let length = amplitude::write(source, destination, values, &mut frame).unwrap();
+        frame.truncate(length);
+        frame
+    };
+    for mut bench in Bench::all() {
+        for values in [&[3; 1][..], &[3; 58], &[3; 1_155]] {
+            for station in [STATION, OTHER] {
+                assert_eq!(bench.octets(&request(station, US, values)), Err(8));
+                assert_eq!(bench.octets(&request(station, address(9), values)), Err(7));
+            }
+            assert_eq!(bench.octets(&request(US, US, values)), Err(7));
+            let mut frame = request(STATION, US, values);
+            frame[20] = 0x80;
+            assert_eq!(bench.octets(&frame), Err(6));
+            assert_eq!(bench.octets(&frame[..20]), Err(1));
+            assert_eq!(bench.call(84, |car, output| car.receive(&frame, output)), Err(15));
+        }
+        for result in [0, 1] {
+            let body = Body::AmpMapCnf { result };
+            assert_eq!((bench.station(body), bench.hear(body.send(OTHER, US))), (Err(8), Err(8)));
+            assert_eq!(bench.hear(body.send(STATION, OTHER)), Err(7));
+            assert_eq!(bench.hear(body.send(US, OTHER)), Err(7));
+        }
+    }
+    let (mut bad, _) = Car::configure(Config { reference: 256, ..CONFIG });
+    assert_eq!(bad.receive(&request(STATION, US, &[1]), &mut []), Err(Refusal::Configuration));
+}
+
+#[test]
+fn random_scripts_together_reach_every_row() {
+    let mut reached: Vec<bool> = Vec::new();
+    let mut rows = Vec::new();
+    for seed in 1..=60 {
+        let counted = counted(&random_script(seed, 4_000));
+        rows = counted.lines().map(String::from).collect();
+        reached.resize(rows.len(), false);
+        rows.iter().zip(&mut reached).for_each(|(row, reached)| *reached |= !row.ends_with(" 0"));
+    }
+    let zeros: Vec<_> = rows.iter().zip(&reached).filter(|(_, reached)| !**reached).collect();
+    assert!(zeros.is_empty(), "{zeros:?}");
+}
+
+#[test]
 fn confirmations_of_any_station() {
     let mut bench = Bench::asking();
     assert_eq!(bench.tick(150), NOTHING);
@@ -1076,20 +1122,22 @@ fn foreign_frames_change_nothing() {
     assert!(left_out > 10_000);
 }
 
-/// A seed and how many events of it reach every row but 16, and seeds of bad configurations: a
-/// reference of 256, and a first octet that is odd.
-const FULL: (u64, u32) = (1_483, 3_500);
+/// A seed and how many events of it, covered, reach every row but 16, and seeds of bad
+/// configurations: a reference of 256, and a first octet that is odd.
+const FULL: (u64, u32) = (2, 3_500);
 const BAD: [u64; 2] = [45, 90];
 
-fn counted(seed: u64, events: u32) -> String {
+fn counted(script: &[u8]) -> String {
     let mut counted = Vec::new();
-    assert!(crate::car_count(&random_script(seed, events)[..], &mut counted).unwrap());
+    assert!(crate::car_count(script, &mut counted).unwrap());
     String::from_utf8(counted).unwrap()
 }
 
 #[test]
 fn a_random_script_reaches_every_row() {
-    let full = counted(FULL.0, FULL.1);
+    let mut script = Vec::new();
+    car_generate::cover(FULL.0, FULL.1, &mut script).unwrap();
+    let full = counted(&script);
     let zeros: Vec<&str> = full.lines().filter(|row| row.ends_with(" 0")).collect();
     assert!(matches!(zeros[..], [row] if row.contains("16 bad configuration")), "{zeros:?}");
     // A row that the table did not foresee would be one more.
@@ -1098,7 +1146,7 @@ fn a_random_script_reaches_every_row() {
     for seed in BAD {
         let script = random_script(seed, 300);
         assert!(Car::configure(Script::open(&script[..]).unwrap().config).1.is_err());
-        let bad = counted(seed, 300);
+        let bad = counted(&script);
         let row = bad.lines().find(|row| row.contains("16 bad configuration")).unwrap();
         assert!(row.ends_with(" 301") && bad.lines().count() == rows);
     }
@@ -1124,6 +1172,7 @@ impl Bay {
             nmk,
             exempt: false,
             edition: Edition::Iso,
+            carriers: 917,
         };
         let (mut station, answer) = Station::configure(config);
         assert_eq!(answer, Ok(()));

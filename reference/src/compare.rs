@@ -1,6 +1,6 @@
 //! Compares two outputs of one script, a station's or a car's.
 
-use crate::messages::{Address, Body, Groups, Message, RESULTS};
+use crate::messages::{Address, Body, Groups, Message, MAP_SUCCESS, RESULTS};
 use crate::refusal;
 use crate::script::{take_number, Answer};
 use std::io::{self, BufReader, Read};
@@ -41,12 +41,20 @@ pub fn refused(number: u32) -> String {
 pub fn words(Answer { refusal, indication, octets }: &Answer) -> String {
     let given = match octets[..] {
         _ if Message::read_all(octets).0.is_empty() && spread(octets).is_some() => service(octets),
+        _ if inspection(octets).is_some() => inspection(octets).unwrap_or_default(),
         [a, b, c, d, e, f, ref key @ ..] if octets.len() == KEY => {
             format!("the key of {}: {}", Address([a, b, c, d, e, f]), hex(key))
         }
         _ => format!("{}: {}", frames(octets), hex(octets)),
     };
     format!("{}, {}, {given}", refused(*refusal), indicated(*indication))
+}
+
+/// What a station's inspection gives: the state's number, and the car. No frame is so short.
+pub fn inspection(octets: &[u8]) -> Option<String> {
+    let (state, car) = octets.split_first_chunk()?;
+    let car = Address(car.try_into().ok()?);
+    Some(format!("state {}, car {car}", u32::from_le_bytes(*state)))
 }
 
 /// What a station's service query gives: the sounds heard, the least and the greatest values.
@@ -92,6 +100,10 @@ pub fn frames(octets: &[u8]) -> String {
                     0 => format!("{name} ({words}) to {to}"),
                     _ => format!("{name} ({words}, {toggles} toggles) to {to}"),
                 }
+            }
+            Body::AmpMapCnf { result } => {
+                let words = if result == MAP_SUCCESS { "success" } else { "failure" };
+                format!("{name} ({words}) to {to}")
             }
             _ => format!("{name} to {to}"),
         }

@@ -1,5 +1,6 @@
 //! What a script reaches: how often each refusal, indication, state and accepted message occurs.
 
+use crate::amplitude_count::Maps;
 use crate::edition_count::Editions;
 use crate::mean_count;
 use crate::messages::{Body, Kind, Message};
@@ -12,25 +13,42 @@ use crate::validation_count::{named, Validations};
 use std::cmp::Ordering;
 use std::collections::BTreeMap;
 use std::fmt;
+use std::rc::Rc;
 
-/// Counts by group and row, in the order of the table.
+/// Counts by group and row, in the order of the table. Copies share the names of the rows.
 #[derive(Clone, Default)]
-pub struct Table(BTreeMap<(&'static str, String), u64>);
+pub struct Table {
+    /// For each group its rows, with their places among the counts.
+    groups: Rc<BTreeMap<&'static str, BTreeMap<String, usize>>>,
+    counts: Vec<u64>,
+}
 
 impl Table {
+    /// The place of a row, a new one where there is none.
+    fn place(&mut self, group: &'static str, name: &str) -> usize {
+        if let Some(place) = self.groups.get(group).and_then(|rows| rows.get(name)) {
+            return *place;
+        }
+        let rows = Rc::make_mut(&mut self.groups).entry(group).or_default();
+        rows.insert(name.into(), self.counts.len());
+        self.counts.push(0);
+        self.counts.len() - 1
+    }
+
     /// A row of zero, so that what is never reached shows.
     pub fn row(&mut self, group: &'static str, name: &str) {
-        self.0.insert((group, name.into()), 0);
+        self.place(group, name);
     }
 
     /// How many rows are reached.
     pub fn reached(&self) -> usize {
-        self.0.values().filter(|count| **count > 0).count()
+        self.counts.iter().filter(|count| **count > 0).count()
     }
 
     /// One more; a row of its own where there is none.
     pub fn add(&mut self, group: &'static str, name: &str) {
-        *self.0.entry((group, name.into())).or_default() += 1;
+        let place = self.place(group, name);
+        self.counts[place] += 1;
     }
 
     /// A row of zero for each of these refusals.
@@ -79,13 +97,21 @@ pub fn end(left: u32, elapsed: u32) -> &'static str {
     }
 }
 
+/// Messages that a station never takes.
+fn is_for_cars(kind: Kind) -> bool {
+    matches!(
+        kind,
+        Kind::ParmCnf | Kind::AttenChar | Kind::ValidateCnf | Kind::MatchCnf | Kind::AmpMapCnf
+    )
+}
+
 /// The state's name.
 pub fn state(station: &Station) -> &'static str {
     match station.state {
         State::Unmatched => "Unmatched",
         State::Matching { .. } => "Matching",
         State::Joining { .. } => "Joining",
-        State::Matched => "Matched",
+        State::Matched { .. } => "Matched",
     }
 }
 
@@ -115,6 +141,7 @@ pub struct Counts {
     spreads: Spreads,
     runs: Runs,
     editions: Editions,
+    maps: Maps,
 }
 
 impl Counts {
@@ -125,14 +152,13 @@ impl Counts {
         for kind in Kind::ALL {
             table.row("5 damaged", kind.name());
             table.row("6 short output", kind.name());
-            if !matches!(kind, Kind::ParmCnf | Kind::AttenChar | Kind::ValidateCnf | Kind::MatchCnf)
-            {
+            if !is_for_cars(kind) {
                 table.row("4 accepted", kind.name());
                 table.reserved_rows(kind);
             }
         }
         let mut row = |group, name: &str| table.row(group, name);
-        for name in ["tick", "pilot", "terminate", "link up", "query"] {
+        for name in ["tick", "pilot", "terminate", "link up", "query", "reduction", "inspection"] {
             row("4 accepted", name);
         }
         row("5 damaged", "unknown type");
@@ -157,7 +183,8 @@ impl Counts {
         let runs = Runs::new(config, &mut table);
         mean_count::rows(&mut table);
         let editions = Editions::new(config, &mut table);
-        Counts { config, table, validations, spreads, runs, editions }
+        let maps = Maps::new(config, &mut table);
+        Counts { config, table, validations, spreads, runs, editions, maps }
     }
 
     /// How many rows are reached.
@@ -172,6 +199,7 @@ impl Counts {
     pub fn configured(&mut self, answer: Result<(), Refusal>) {
         if let Err(refusal) = answer {
             self.table.refused(refusal);
+            self.add("7 passage", "bad configuration");
         }
     }
 
@@ -184,6 +212,8 @@ impl Counts {
             Event::Terminate => "terminate",
             Event::LinkUp => "link up",
             Event::Query { .. } => "query",
+            Event::Reduction { .. } => "reduction",
+            Event::Inspection => "inspection",
         };
         match outcome {
             Ok((indication, _)) => {
@@ -200,7 +230,9 @@ impl Counts {
             }
             Err(refusal) => {
                 self.table.refused(*refusal);
-                if refusal.number() <= 6 {
+                if matches!(event, Event::Reduction { .. }) {
+                    // Its rows are elsewhere.
+                } else if refusal.number() <= 6 {
                     self.add("5 damaged", kind);
                 } else if *refusal == Refusal::Output {
                     self.add("6 short output", kind);
@@ -214,6 +246,7 @@ impl Counts {
         self.runs.event(&mut self.table, event, before, outcome);
         mean_count::event(&mut self.table, after, outcome);
         self.editions.event(&mut self.table, event, before, after, outcome);
+        self.maps.event(&mut self.table, event, before, after, outcome);
     }
 
     fn states(&mut self, after: &Station) {
@@ -222,7 +255,7 @@ impl Counts {
             State::Matching { admission: 0 } => "Matching, admission closed",
             State::Matching { .. } => "Matching, admission open",
             State::Joining { .. } => "Joining",
-            State::Matched => "Matched",
+            State::Matched { .. } => "Matched",
         };
         self.add("3 after the event", state);
         self.add("3 after the event", &format!("pilot {:?}", after.pilot));
@@ -284,9 +317,9 @@ const STATES: [&str; 20] = [
     "record Validating, counting", "record Validating, success",
 ];
 
-const PASSAGES: [&str; 5] = [
-    "restart, admission open", "restart, admission closed", "closed by profiles",
-    "MATCH.CNF again", "the clock wraps",
+const PASSAGES: [&str; 6] = [
+    "bad configuration", "restart, admission open", "restart, admission closed",
+    "closed by profiles", "MATCH.CNF again", "the clock wraps",
 ];
 
 fn refused(number: u32) -> String {
@@ -301,10 +334,14 @@ impl fmt::Display for Counts {
 
 impl fmt::Display for Table {
     fn fmt(&self, f: &mut fmt::Formatter) -> fmt::Result {
-        let longest = self.0.keys().map(|(_, name)| name.len()).max().unwrap_or(0).max(40);
-        for ((group, name), count) in &self.0 {
+        let names = self.groups.values().flat_map(BTreeMap::keys);
+        let longest = names.map(String::len).max().unwrap_or(0).max(40);
+        for (group, rows) in self.groups.iter() {
             let group = group.trim_start_matches(|c: char| c.is_ascii_digit()).trim_start();
-            writeln!(f, "{group:<16}  {name:<longest$}  {count:>9}")?;
+            for (name, place) in rows {
+                let count = self.counts[*place];
+                writeln!(f, "{group:<16}  {name:<longest$}  {count:>9}")?;
+            }
         }
         Ok(())
     }

@@ -173,11 +173,11 @@ impl Editions {
                     rows.push(format!("closed at {} profiles", old.profiles + 1));
                     rows.push(report(reply.len()).into());
                 }
-                let shortest = Kind::AttenProfile.shortest_with(count);
+                let shortest = Kind::AttenProfile.shortest_with(count.into());
                 if octets.iter().skip(shortest).any(|octet| *octet != 0) {
                     rows.push("ATTEN_PROFILE.IND, padding set".into());
                 }
-                if octets.len() < Kind::AttenProfile.written_with(count) {
+                if octets.len() < Kind::AttenProfile.written_with(count.into()) {
                     rows.push("ATTEN_PROFILE.IND, padding cut".into());
                 }
             }
@@ -269,7 +269,7 @@ impl Editions {
         }
         let mut last = 0;
         for message in Message::read_all(reply).0 {
-            let length = message.body.kind().written_with(message.body.groups());
+            let length = message.body.kind().written_with(message.body.count());
             match message.body {
                 Body::AttenChar { .. } => {
                     rows.push(report(length).into());

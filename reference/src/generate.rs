@@ -1,9 +1,10 @@
 //! Random scripts from a seed, and the demo script.
 
+use crate::amplitude;
 use crate::count::Counts;
 use crate::messages::{Address, Body, Edition, Groups, Id, Kind, Message, Nid, Nmk, RunId, Try};
-use crate::messages::{MOST_GROUPS, NO_ID};
-use crate::random::Random;
+use crate::messages::{MOST_CARRIERS, MOST_GROUPS, NO_ID};
+use crate::random::{replace, Random};
 use crate::script::{write_head, Event, MOST};
 use crate::station::{Config, Phase, Pilot, Record, State, Station, Step, LEAST_OUTPUT, RECORDS};
 use std::collections::VecDeque;
@@ -59,6 +60,8 @@ struct Generator {
     waves: Vec<usize>,
     /// How many profiles the next cars send that send some.
     lengths: Vec<usize>,
+    /// How many arrivals in a hundred are larger waves.
+    large: usize,
     /// How many episodes in a hundred have a validation with more toggles than are counted; one in
     /// a script is enough.
     many: usize,
@@ -84,7 +87,7 @@ enum Planned {
 const WAVE: usize = 12;
 
 /// `cover` tries so many ways on, each of so many events at most.
-const TRIES: usize = 64;
+const TRIES: usize = 160;
 const STRETCH: usize = 64;
 
 /// `generate SEED EVENTS`.
@@ -109,7 +112,7 @@ pub fn session(seed: u64, events: u32) -> (Config, Vec<Event>) {
     while session.len() < events as usize {
         let mut event = generator.event();
         match &mut event {
-            Event::Query { .. } => continue,
+            Event::Query { .. } | Event::Reduction { .. } | Event::Inspection => continue,
             Event::Frame { room, .. } | Event::Tick { room, .. } => *room = LEAST_OUTPUT,
             _ => {}
         }
@@ -123,12 +126,13 @@ pub fn session(seed: u64, events: u32) -> (Config, Vec<Event>) {
 /// `cover SEED EVENTS`: as `generate` with a good configuration, but of several ways on it takes
 /// the one that reaches most rows of the table.
 pub fn cover(seed: u64, events: u32, script: &mut impl Write) -> io::Result<()> {
-    let mut generator = Generator { many: 30, ..Generator::new(Random::new(seed)) };
+    let mut generator = Generator { large: 45, many: 30, ..Generator::new(Random::new(seed)) };
     let mut counts = Counts::new(generator.config);
     write_head(script, &generator.config, events)?;
     let mut left = usize::try_from(events).map_err(io::Error::other)?;
     while left > 0 {
-        let length = (1 + generator.random.below(STRETCH)).min(left);
+        let longest = 1 + generator.random.below(STRETCH);
+        let length = (1 + generator.random.below(longest)).min(left);
         let seeds: [u64; TRIES] = std::array::from_fn(|_| generator.random.next());
         let tries = seeds.into_iter().map(|seed| generator.go_on(seed, length, &counts));
         let Some(best) = tries.max_by_key(|(_, counts, _)| counts.reached()) else { break };
@@ -167,6 +171,7 @@ impl Generator {
             nmk: Nmk(random.octets()),
             exempt: random.chance(20),
             edition: random.pick(&[Edition::Iso, Edition::Sae], Edition::Iso),
+            carriers: Generator::carriers(&mut random),
         };
         let cars = std::array::from_fn(|place| random.unicast(1 + place as u8));
         let (station, _) = Station::configure(config);
@@ -183,15 +188,26 @@ impl Generator {
             focus: 0,
         };
         let (plan, waves, lengths) = (VecDeque::new(), Vec::new(), Vec::new());
-        let (clock, many) = (0, 8);
-        Generator { random, config, station, cars, mood, clock, plan, waves, lengths, many }
+        let (clock, large, many) = (0, 30, 8);
+        Generator { random, config, station, cars, mood, clock, plan, waves, lengths, large, many }
+    }
+
+    /// A number of carriers, mostly a small one.
+    fn carriers(random: &mut Random) -> u32 {
+        let any = 1 + random.below(usize::from(MOST_CARRIERS)) as u32;
+        let small = 2 + random.below(38) as u32;
+        random.pick(&[1, 2, 3, 917, 1_154, 1_155, any, small, small, small, small, small], any)
     }
 
     /// The configuration that goes into the script: now and then a bad one.
     fn written_config(&mut self) -> Config {
         let mut config = self.config;
         if self.random.chance(6) {
-            match self.random.below(7) {
+            let any = self.random.next() as u32;
+            match self.random.below(10) {
+                7 => config.carriers = 0,
+                8 => config.carriers = 1_156,
+                9 => config.carriers = self.random.pick(&[0x1_0001, any | 0x8000, u32::MAX], 0),
                 0 => config.station.0[0] |= 1,
                 1 => config.modem.0[0] |= 1,
                 2 => config.station = Address([0; 6]),
@@ -212,7 +228,7 @@ impl Generator {
                         self.many = 0;
                     }
                     self.mood.many = toggles < 255 || self.random.chance(75);
-                    99
+                    100
                 }
                 Pilot::B => 15,
                 _ => 20,
@@ -228,10 +244,17 @@ impl Generator {
         }
         let roll = self.random.below(1000);
         match (self.station.state, roll) {
-            (State::Matched, 0..=399) => self.frame(),
-            (State::Unmatched | State::Matched, 0..=549) => self.pilot(),
-            (State::Unmatched | State::Matched, 550..=699) => self.frame(),
-            (State::Unmatched | State::Matched, 700..=899) => self.tick(),
+            (State::Matched { .. }, 0..=299)
+            | (State::Joining { .. }, 850..=919)
+            | (State::Unmatched, 900..=939) => self.map_frame(),
+            (State::Matched { .. }, 300..=499) => self.frame(),
+            (State::Matched { .. }, 500..=579) => {
+                let reading = self.random.next() as u32;
+                Event::Pilot { to: self.random.pick(&Pilot::ALL[1..4], Pilot::B), reading }
+            }
+            (State::Unmatched, 0..=549) | (State::Matched { .. }, 580..=649) => self.pilot(),
+            (State::Unmatched | State::Matched { .. }, 550..=699) => self.frame(),
+            (State::Unmatched | State::Matched { .. }, 700..=899) => self.tick(),
             (State::Matching { .. }, 0..=739) => self.frame(),
             (State::Matching { .. }, 740..=959) => self.tick(),
             (State::Joining { .. }, 0..=399) => self.frame(),
@@ -244,7 +267,137 @@ impl Generator {
                 let reading = self.clock;
                 Event::Pilot { to: self.random.pick(&Pilot::ALL[1..4], Pilot::B), reading }
             }
+            (_, 965..=969) => self.map_frame(),
+            _ => self.question(),
+        }
+    }
+
+    /// A service query, an inspection or a reduction.
+    fn question(&mut self) -> Event {
+        match self.random.below(8) {
+            0 => Event::Inspection,
+            1..=4 => self.reduction(),
             _ => self.query(),
+        }
+    }
+
+    /// A reduction, mostly of a few values; now and then with something wrong.
+    fn reduction(&mut self) -> Event {
+        let few = 1 + self.random.below(12);
+        let most = usize::from(MOST_CARRIERS);
+        let count = match self.random.below(50) {
+            0 => most,
+            1 => most + 1,
+            2 => most + 2 + self.random.below(20),
+            3 => 0,
+            4..=9 => 1,
+            _ => few,
+        };
+        let mut values: Vec<u8> = (0..count).map(|_| self.random.below(16) as u8).collect();
+        let limit = |value: u8| -50 - 2 * i16::from(value);
+        let mut levels = Vec::new();
+        for value in &values {
+            let any = -(self.random.below(129) as i16);
+            let near = (limit(*value) + self.random.below(4) as i16 - 1).min(0);
+            levels.push(self.random.pick(&[any, any, near, near, 0, -128], any));
+        }
+        let mut room = count;
+        if self.random.chance(25) {
+            (values, levels) = (vec![self.random.pick(&[0, 15], 0); count], vec![0; count]);
+        }
+        let (at, low) = (self.random.below(count), -129 - self.random.below(32_000) as i16);
+        let high = 1 + self.random.below(32_000) as i16;
+        for _ in 0..self.random.pick(&[0, 0, 1, 1, 2, 2], 0) {
+            let level = self.random.pick(&[-129, -129, 1, 1, low, high, i16::MIN, i16::MAX], 1);
+            match self.random.below(8) {
+                0 => values.iter_mut().skip(at).take(1).for_each(|value| *value = 16),
+                1 => {
+                    let value = 17 + self.random.below(239) as u8;
+                    values.iter_mut().skip(at).take(1).for_each(|other| *other = value);
+                }
+                2 => drop(levels.pop()),
+                3 => levels.push(self.random.pick(&[0, level], 0)),
+                4 | 5 => levels.iter_mut().skip(at).take(1).for_each(|other| *other = level),
+                6 => room = self.random.pick(&[0, count.saturating_sub(1)], 0),
+                _ => room = self.random.pick(&[count + 1, MOST], MOST),
+            }
+        }
+        Event::Reduction { values, levels, room }
+    }
+
+    /// An amplitude map of a car, mostly the matched one, mostly of as many carriers as we have; now
+    /// and then with something wrong.
+    fn map_frame(&mut self) -> Event {
+        let Config { station, modem, carriers, .. } = self.config;
+        let (any, other) = (self.car(), self.random.unicast(0xCC));
+        let own = match self.station.state {
+            State::Joining { car, .. } | State::Matched { car } => car,
+            _ => any,
+        };
+        let strange = self.random.pick(&[station, modem], modem);
+        let car = self.random.pick(&[own, own, own, own, own, own, any, any, strange], own);
+        let small = 1 + self.random.below(12);
+        let ours = carriers as usize;
+        let count = match self.random.below(24) {
+            0 => ours + 1,
+            1 => ours.saturating_sub(1).max(1),
+            2 => small,
+            3 if self.random.chance(30) => usize::from(MOST_CARRIERS),
+            4 => 1,
+            5 => 2,
+            _ => ours,
+        };
+        let count = count.min(usize::from(MOST_CARRIERS));
+        let values: Vec<u8> = (0..count).map(|_| self.random.below(16) as u8).collect();
+        let to =
+            self.random.pick(&[station, station, station, station, station, other, modem], other);
+        let mut octets = vec![0; 599];
+        let written = amplitude::write(car, to, &values, &mut octets);
+        octets.truncate(written.unwrap_or(0));
+        self.spoil_map(&mut octets);
+        let room =
+            if self.random.chance(4) { self.random.below(LEAST_OUTPUT) } else { LEAST_OUTPUT };
+        Event::Frame { octets, room }
+    }
+
+    /// Changes the number of carriers, the length, an address, the unused half or the padding of an
+    /// amplitude map, or nothing.
+    fn spoil_map(&mut self, octets: &mut Vec<u8>) {
+        let length = octets.len();
+        let any = 1_157 + self.random.below(64_000) as u16;
+        let wrong = self.random.pick(&[0, 1_156, 1_156, any, 0xFFFF], 0);
+        let group = self.random.pick(&[0, 6], 0);
+        let carriers = u16::from_le_bytes([octets[19], octets[20]]);
+        let shortest = Kind::AmpMapReq.shortest_with(carriers);
+        match self.random.below(32) {
+            0 => replace(octets, 19, &wrong.to_le_bytes()),
+            1 => {
+                replace(octets, 19, &wrong.to_le_bytes());
+                octets.truncate(21);
+            }
+            2 => {
+                replace(octets, 19, &wrong.to_le_bytes());
+                octets.resize(600, 0);
+            }
+            3 => {
+                replace(octets, 19, &wrong.to_le_bytes());
+                octets[group] |= 1;
+            }
+            4 => octets.truncate(19 + self.random.below(2)),
+            5 => octets.truncate(self.random.pick(&[21, shortest - 1], 21)),
+            6 => {
+                octets.truncate(shortest - 1);
+                octets[group] |= 1;
+            }
+            7 => octets.resize(length + 1 + self.random.below(20), 0),
+            8 => octets[group] |= 1,
+            9 | 10 if carriers % 2 == 1 => octets[shortest - 1] |= 0x10 << self.random.below(4),
+            11 | 12 => {
+                let padding = 1 + self.random.below(255) as u8;
+                octets.iter_mut().skip(shortest).for_each(|octet| *octet = padding);
+            }
+            13 => octets.truncate(shortest),
+            _ => {}
         }
     }
 
@@ -316,6 +469,8 @@ impl Generator {
             8..=10 => return Some(self.edition_frame()),
             11..=17 => return Some(self.odd_frame()),
             18..=20 => return Some(self.query()),
+            21 => return Some(self.question()),
+            22 if self.random.chance(30) => return Some(self.map_frame()),
             21..=45 if self.station.is_full() => return Some(self.odd_frame()),
             _ => {}
         }
@@ -354,9 +509,10 @@ impl Generator {
     /// Some cars from their request to the response, mostly with a profile each.
     fn arrivals(&mut self) -> VecDeque<Planned> {
         let Config { station, .. } = self.config;
-        let most = match self.mood.late || self.random.chance(70) {
-            true => self.random.pick(&[1, 2, 3, 3], 1).min(self.mood.cars),
-            false => self.wave(),
+        let is_large = !self.mood.many && !self.mood.late && self.random.chance(self.large);
+        let most = match is_large {
+            true => self.wave(),
+            false => self.random.pick(&[1, 2, 3, 3], 1).min(self.mood.cars),
         };
         let is_small = most < 4;
         let responses = self.random.pick(&[100, 70, 40], 90);
@@ -451,6 +607,7 @@ impl Generator {
             (true, 0..=4) => usize::from(sounds),
             (true, 5..=24) => self.profiles(sounds),
             (true, 25..=44) if later => self.profiles(sounds),
+            (true, 45..=49) if later => usize::from(sounds),
             _ => 1 + self.random.below(8) / 6,
         };
         // Many profiles have many groups, in which means are of every kind.
@@ -742,8 +899,8 @@ impl Generator {
             }
             10 => octets[place] = self.random.pick(&[1, 2, MOST_GROUPS - 1, MOST_GROUPS], 1),
             11 | 12 => {
-                let shortest =
-                    Kind::of(octets).map_or(length, |kind| kind.shortest_with(octets[place]));
+                let shortest = Kind::of(octets)
+                    .map_or(length, |kind| kind.shortest_with(octets[place].into()));
                 let padding = 1 + self.random.below(255) as u8;
                 octets.iter_mut().skip(shortest).for_each(|octet| *octet = padding);
                 if self.random.chance(50) {
@@ -793,7 +950,7 @@ impl Generator {
             State::Matching { admission } if self.is_late() => {
                 admission - 50 - self.random.below(600) as u32
             }
-            State::Unmatched | State::Matched if self.random.chance(50) => {
+            State::Unmatched | State::Matched { .. } if self.random.chance(50) => {
                 self.random.below(60_002) as u32
             }
             State::Joining { .. } if self.random.chance(40) => self.limit(),
@@ -951,9 +1108,9 @@ impl Generator {
     /// Values of so many groups.
     fn groups(&mut self, count: u8) -> Groups {
         let flat = self.random.next() as u8;
-        let mut groups = match self.random.below(4) {
+        let mut groups = match self.random.below(10) {
             0 => [self.random.pick(&[0, 1, 0xFE, 0xFF], flat); MOST_GROUPS as usize],
-            1 => [flat; MOST_GROUPS as usize],
+            1 | 2 => [flat; MOST_GROUPS as usize],
             _ => self.random.octets(),
         };
         groups[usize::from(count)..].fill(0);
@@ -1016,7 +1173,8 @@ impl Generator {
         let (car, other) = (self.car(), self.random.unicast(0xCC));
         let (run, sounds) = (RunId(self.random.octets()), self.random.next() as u8);
         let (result, later) = (self.random.below(5) as u8, self.random.chance(50));
-        let body = match self.random.below(5) {
+        let body = match self.random.below(6) {
+            5 => Body::AmpMapCnf { result: u8::from(later) },
             0 => Body::ParmCnf { run, attempt: self.config.attempt(later) },
             1 => {
                 let count = self.group_count();
@@ -1085,7 +1243,8 @@ pub fn demo(script: &mut impl Write) -> io::Result<()> {
     ]);
     events.push(Event::LinkUp);
     let (nid, nmk) = (Nid([1, 2, 3, 4, 5, 6, 7]), Nmk([0x4B; 16]));
-    let config = Config { station, modem, nid, nmk, exempt: false, edition: Edition::Iso };
+    let (exempt, edition, carriers) = (false, Edition::Iso, 917);
+    let config = Config { station, modem, nid, nmk, exempt, edition, carriers };
     write_head(script, &config, u32::try_from(events.len()).map_err(io::Error::other)?)?;
     events.iter().try_for_each(|event| event.write(script))
 }

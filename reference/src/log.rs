@@ -8,7 +8,7 @@ use crate::station::Config;
 pub const LONGEST: usize = 65_536;
 const HEAD: usize = 20;
 /// Two addresses, NID, NMK, and a number for each later setting.
-const CONFIGURATION: usize = 6 + 6 + 7 + 16 + 2 * 4;
+const CONFIGURATION: usize = 6 + 6 + 7 + 16 + 3 * 4;
 /// Where the configuration ends.
 pub const EVENTS: usize = HEAD + CONFIGURATION;
 /// The three numbers of an event or a reply, before its octets.
@@ -54,6 +54,8 @@ pub struct Settings {
     pub exempt: u32,
     /// 0 for ISO, 1 for SAE.
     pub edition: u32,
+    /// Our carriers, any number.
+    pub carriers: u32,
 }
 
 /// An event without its octets.
@@ -91,6 +93,7 @@ impl Settings {
             nmk: config.nmk.0,
             exempt: u32::from(config.exempt),
             edition: u32::from(config.edition == Edition::Sae),
+            carriers: config.carriers,
         }
     }
 
@@ -108,6 +111,7 @@ impl Settings {
             nmk: Nmk(self.nmk),
             exempt: self.exempt == 1,
             edition: if self.edition == 1 { Edition::Sae } else { Edition::Iso },
+            carriers: self.carriers,
         }
     }
 
@@ -242,7 +246,7 @@ impl Log {
 
     /// The log's octets, whatever is wrong with it.
     pub fn to_octets(&self) -> Vec<u8> {
-        let Settings { station, modem, nid, nmk, exempt, edition } = self.settings;
+        let Settings { station, modem, nid, nmk, exempt, edition, carriers } = self.settings;
         let events = self.events().map(|(Event { kind, reading, length }, octets)| {
             [&numbers([kind, reading, length])[..], octets].concat()
         });
@@ -260,7 +264,7 @@ impl Log {
             &modem.to_be_bytes()[2..],
             &nid.to_le_bytes()[..7],
             &nmk,
-            &numbers([exempt, edition]),
+            &numbers([exempt, edition, carriers]),
             &events,
             &replies,
         ]
@@ -331,6 +335,7 @@ fn settings(log: &[u8]) -> Option<Settings> {
         nmk: *nmk,
         exempt: number(rest, 0)?,
         edition: number(rest, 4)?,
+        carriers: number(rest, 8)?,
     })
 }
 

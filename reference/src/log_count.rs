@@ -245,10 +245,10 @@ fn fields(log: &[u8]) -> Vec<Field> {
         wrong.push(Field { list, place, cause, way });
     };
     let at = |at: usize| number(log, at).unwrap_or(0);
-    if at(EVENTS - 8) > 1 {
+    if at(EVENTS - 12) > 1 {
         add(0, 0, 8, "validation not required");
     }
-    if at(EVENTS - 4) > 1 {
+    if at(EVENTS - 8) > 1 {
         add(0, 0, 8, "edition");
     }
     let mut start = EVENTS;

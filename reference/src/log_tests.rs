@@ -8,10 +8,11 @@ use crate::replay::{self, replay, Found};
 const SETTINGS: Settings = Settings {
     station: 0x0200_0000_00AA,
     modem: 0x0200_0000_00BB,
-    nid: 0x3F06_0504_0302_01,
+    nid: 0x003F_0605_0403_0201,
     nmk: [0x4B; 16],
     exempt: 0,
     edition: 0,
+    carriers: 0x395,
 };
 
 /// Octets as text; `5*EE` are five octets EE.
@@ -69,8 +70,8 @@ fn session() -> Log {
 const REPLIES: usize = EVENTS + 121;
 const TOTAL: usize = REPLIES + 120;
 
-const SESSION: &str = "05 00 00 00 05 00 00 00 3F 00 00 00 B8 00 00 00 30 01 00 00 \
-    02 00 00 00 00 AA 02 00 00 00 00 BB 01 02 03 04 05 06 3F 16*4B 8*00 \
+const SESSION: &str = "05 00 00 00 05 00 00 00 43 00 00 00 BC 00 00 00 34 01 00 00 \
+    02 00 00 00 00 AA 02 00 00 00 00 BB 01 02 03 04 05 06 3F 16*4B 8*00 95 03 00 00 \
     02 00 00 00 07 00 00 00 01 00 00 00 01 \
     00 00 00 00 00 00 00 00 3C 00 00 00 \
     6*FF 02 00 00 00 00 01 88 E1 01 64 60 00 00 00 00 01 02 03 04 05 06 07 08 31*00 \
@@ -120,8 +121,8 @@ fn a_log_by_its_octets() {
     assert_eq!(replay(&octets(SESSION)), Found::NoDifference);
     let empty = log(&[], &[]);
     let whole = octets(
-        "8*00 3F 00 00 00 3F 00 00 00 3F 00 00 00 02 00 00 00 00 AA 02 00 00 00 00 BB 01 02 03 04 \
-         05 06 3F 16*4B 8*00",
+        "8*00 43 00 00 00 43 00 00 00 43 00 00 00 02 00 00 00 00 AA 02 00 00 00 00 BB 01 02 03 04 \
+         05 06 3F 16*4B 8*00 95 03 00 00",
     );
     assert_eq!((write(&empty), read(&whole)), (Ok(whole.clone()), Ok(empty)));
     assert_eq!(replay(&whole).number(), 0);
@@ -171,7 +172,7 @@ fn causes_of_reading() {
             assert_eq!(read(&with(at, old + more)), Err(cause), "{at}");
         }
         // One that would come back to the same place, if it wrapped.
-        assert_eq!(read(&with(at, old.wrapping_sub(12))).is_err(), true);
+        assert!(read(&with(at, old.wrapping_sub(12))).is_err());
     }
     // Both counts higher or lower: the events end elsewhere.
     for count in [0, 4, 6, 20, u32::MAX] {
@@ -191,6 +192,10 @@ fn causes_of_reading() {
     }
     assert_eq!(read(&with(55, 1)).map(|log| log.settings.exempt), Ok(1));
     assert_eq!(read(&with(59, 1)).map(|log| log.settings.edition), Ok(1));
+    // Any number of carriers is no wrong field.
+    for carriers in [0, 1, 1_155, 1_156, u32::MAX] {
+        assert_eq!(read(&with(63, carriers)).map(|log| log.settings.carriers), Ok(carriers));
+    }
     // 9 to 14 in single fields.
     for (at, number, cause) in [
         (EVENTS, 5, 9),
@@ -398,8 +403,14 @@ fn replays_by_their_number() {
     other.frames.clear();
     assert_eq!(replay(&other.to_octets()).number(), 0);
     assert!(other.settings.config().nid.is_valid());
-    other.settings = Settings { nid: 1 << 54, ..SETTINGS };
-    assert_eq!(replay(&other.to_octets()).number(), 0);
+    for settings in [
+        Settings { nid: 1 << 54, ..SETTINGS },
+        Settings { carriers: 0, ..SETTINGS },
+        Settings { carriers: 1_156, ..SETTINGS },
+    ] {
+        other.settings = settings;
+        assert_eq!(replay(&other.to_octets()).number(), 0);
+    }
     assert_eq!(read(&other.to_octets()), Ok(other));
 }
 

@@ -1,6 +1,10 @@
 //! A second SLAC station and a second car, written from the scope paper alone: it runs bench
 //! scripts, makes random ones and compares outputs.
 
+mod amplitude;
+mod amplitude_count;
+#[cfg(test)]
+mod amplitude_tests;
 mod car;
 mod car_count;
 mod car_generate;
@@ -45,7 +49,7 @@ const USAGE: &str = "usage: reference run | show [REPLIES] | count (a script on 
                      | log SEED EVENTS | replay | log-count (a log on standard input) \
                      | damage-log CAUSE SEED | change-log EVENT SEED (a log on standard input) \
                      | car-run | car-count (a car's script on standard input) \
-                     | car-generate SEED EVENTS";
+                     | car-generate SEED EVENTS | car-cover SEED EVENTS";
 
 fn main() -> ExitCode {
     let arguments: Vec<OsString> = std::env::args_os().skip(1).collect();
@@ -77,6 +81,9 @@ fn main() -> ExitCode {
         (["car-count"], _) => car_count(input, &mut out),
         (["car-generate", seed, events], _) => numbers(seed, events)
             .and_then(|(seed, events)| car_generate::generate(seed, events, &mut out))
+            .map(|()| true),
+        (["car-cover", seed, events], _) => numbers(seed, events)
+            .and_then(|(seed, events)| car_generate::cover(seed, events, &mut out))
             .map(|()| true),
         (["compare", ..], [_, a, b]) => compare_files(a, b, &mut out),
         _ => Err(io::Error::other(USAGE)),

@@ -1,5 +1,5 @@
-//! The eleven messages in both editions: frames read and written ("Frame head and sizes", "Payload
-//! octets", "The SAE edition").
+//! The thirteen messages in both editions: frames read and written ("Frame head and sizes",
+//! "Payload octets", "The SAE edition", "Amplitude maps").
 
 use crate::refusal::Refusal;
 use std::fmt;
@@ -22,6 +22,9 @@ pub struct Nmk(pub [u8; 16]);
 
 /// How many carrier groups there are at most; in the ISO edition always.
 pub const MOST_GROUPS: u8 = 58;
+
+/// How many carriers an amplitude map has at most.
+pub const MOST_CARRIERS: u16 = 1_155;
 
 /// One value for each of the 58 carrier groups of an ATTEN_PROFILE.
 pub type Groups = [u8; MOST_GROUPS as usize];
@@ -128,6 +131,8 @@ pub enum Kind {
     MatchReq,
     MatchCnf,
     AttenProfile,
+    AmpMapReq,
+    AmpMapCnf,
 }
 
 /// To whom a message goes.
@@ -150,7 +155,7 @@ impl Destination {
 }
 
 impl Kind {
-    pub const ALL: [Kind; 11] = [
+    pub const ALL: [Kind; 13] = [
         Kind::ParmReq,
         Kind::ParmCnf,
         Kind::StartAttenChar,
@@ -162,23 +167,27 @@ impl Kind {
         Kind::MatchReq,
         Kind::MatchCnf,
         Kind::AttenProfile,
+        Kind::AmpMapReq,
+        Kind::AmpMapCnf,
     ];
 
-    /// Name, type, payload length and destination.
+    /// Name, type, payload length without groups or carriers, and destination.
     fn row(self) -> (&'static str, u16, usize, Destination) {
         use Destination::{Broadcast, Either, Unicast};
         match self {
             Kind::ParmReq => ("CM_SLAC_PARM.REQ", 0x6064, 10, Broadcast),
             Kind::ParmCnf => ("CM_SLAC_PARM.CNF", 0x6065, 25, Unicast),
             Kind::StartAttenChar => ("CM_START_ATTEN_CHAR.IND", 0x606A, 19, Broadcast),
-            Kind::AttenChar => ("CM_ATTEN_CHAR.IND", 0x606E, 110, Unicast),
+            Kind::AttenChar => ("CM_ATTEN_CHAR.IND", 0x606E, 52, Unicast),
             Kind::AttenCharRsp => ("CM_ATTEN_CHAR.RSP", 0x606F, 51, Unicast),
             Kind::MnbcSound => ("CM_MNBC_SOUND.IND", 0x6076, 52, Broadcast),
             Kind::ValidateReq => ("CM_VALIDATE.REQ", 0x6078, 3, Either),
             Kind::ValidateCnf => ("CM_VALIDATE.CNF", 0x6079, 3, Unicast),
             Kind::MatchReq => ("CM_SLAC_MATCH.REQ", 0x607C, 66, Unicast),
             Kind::MatchCnf => ("CM_SLAC_MATCH.CNF", 0x607D, 90, Unicast),
-            Kind::AttenProfile => ("CM_ATTEN_PROFILE.IND", 0x6086, 66, Unicast),
+            Kind::AttenProfile => ("CM_ATTEN_PROFILE.IND", 0x6086, 8, Unicast),
+            Kind::AmpMapReq => ("CM_AMP_MAP.REQ", 0x601C, 2, Unicast),
+            Kind::AmpMapCnf => ("CM_AMP_MAP.CNF", 0x601D, 1, Unicast),
         }
     }
 
@@ -190,11 +199,6 @@ impl Kind {
         self.row().1
     }
 
-    /// Head and payload, with all groups where there are any.
-    pub fn shortest(self) -> usize {
-        19 + self.row().2
-    }
-
     /// Where in the frame the group count stands.
     pub fn count_place(self) -> Option<usize> {
         match self {
@@ -204,17 +208,24 @@ impl Kind {
         }
     }
 
-    /// Head and payload with so many groups, where there are any.
-    pub fn shortest_with(self, groups: u8) -> usize {
-        match self.count_place() {
-            Some(_) => self.shortest() - usize::from(MOST_GROUPS) + usize::from(groups),
-            None => self.shortest(),
-        }
+    /// Head and payload with so many groups or carriers, where there are any.
+    pub fn shortest_with(self, count: u16) -> usize {
+        let more = match self {
+            Kind::AttenChar | Kind::AttenProfile => count,
+            Kind::AmpMapReq => count.div_ceil(2),
+            _ => 0,
+        };
+        19 + self.row().2 + usize::from(more)
+    }
+
+    /// Head and payload with all groups or one carrier, where there are any.
+    pub fn shortest(self) -> usize {
+        self.shortest_with(if self == Kind::AmpMapReq { 1 } else { MOST_GROUPS.into() })
     }
 
     /// "A written frame is the larger of 60 and 19 + payload long": the most that is read.
-    pub fn written_with(self, groups: u8) -> usize {
-        self.shortest_with(groups).max(60)
+    pub fn written_with(self, count: u16) -> usize {
+        self.shortest_with(count).max(60)
     }
 
     pub fn destination(self) -> Destination {
@@ -299,6 +310,13 @@ pub enum Body {
         count: u8,
         groups: Groups,
     },
+    /// Its values are not part of it: `amplitude` reads and writes them.
+    AmpMapReq {
+        carriers: u16,
+    },
+    AmpMapCnf {
+        result: u8,
+    },
 }
 
 #[derive(Clone, Copy, Debug, PartialEq, Eq)]
@@ -307,6 +325,10 @@ pub struct Message {
     pub source: Address,
     pub body: Body,
 }
+
+/// The results of a CM_AMP_MAP.CNF.
+pub const MAP_SUCCESS: u8 = 0;
+pub const MAP_FAILURE: u8 = 1;
 
 /// The results of a CM_VALIDATE.CNF, by their numbers.
 pub const RESULTS: [&str; 5] = ["not ready", "ready", "success", "failure", "not required"];
@@ -352,11 +374,12 @@ impl Body {
         Body::MatchCnf { run, nid, nmk, car_id: NO_ID, station_id: NO_ID }
     }
 
-    /// How many groups the message has; 58 where it has none at all.
-    pub fn groups(&self) -> u8 {
+    /// How many groups or carriers the message has.
+    pub fn count(&self) -> u16 {
         match self {
-            Body::AttenChar { count, .. } | Body::AttenProfile { count, .. } => *count,
-            _ => MOST_GROUPS,
+            Body::AttenChar { count, .. } | Body::AttenProfile { count, .. } => (*count).into(),
+            Body::AmpMapReq { carriers } => *carriers,
+            _ => 0,
         }
     }
 
@@ -381,6 +404,8 @@ impl Body {
             Body::MatchReq { .. } => Kind::MatchReq,
             Body::MatchCnf { .. } => Kind::MatchCnf,
             Body::AttenProfile { .. } => Kind::AttenProfile,
+            Body::AmpMapReq { .. } => Kind::AmpMapReq,
+            Body::AmpMapCnf { .. } => Kind::AmpMapCnf,
         }
     }
 
@@ -434,6 +459,10 @@ impl Body {
                 let (car, count) = (Address(octets(payload, 0)?), octet(6)?);
                 Body::AttenProfile { car, count, groups: groups(8, count)? }
             }
+            Kind::AmpMapReq => {
+                Body::AmpMapReq { carriers: u16::from_le_bytes(octets(payload, 0)?) }
+            }
+            Kind::AmpMapCnf => Body::AmpMapCnf { result: octet(0)? },
         })
     }
 }
@@ -446,33 +475,26 @@ impl Message {
             Body::ParmCnf { .. }
             | Body::AttenChar { .. }
             | Body::ValidateCnf { .. }
-            | Body::MatchCnf { .. } => None,
+            | Body::MatchCnf { .. }
+            | Body::AmpMapCnf { .. } => None,
             _ => Some(self.source),
         }
     }
 
     /// "Reading order: under 19 (1), 2, 3, payload short (1), 4, 5, 6." In the SAE edition a message
-    /// with groups ends before the count (1) or has a wrong one (6) before its payload is short.
+    /// with groups ends before the count (1) or has a wrong one (6) before its payload is short; so
+    /// does an amplitude map in both.
     pub fn read(frame: &[u8], edition: Edition) -> Result<Message, Refusal> {
         let (head, payload) = frame.split_first_chunk::<19>().ok_or(Refusal::Short)?;
         if head[12..15] != [0x88, 0xE1, 0x01] || head[17..] != [0, 0] {
             return Err(Refusal::Head);
         }
         let kind = Kind::of(head).ok_or(Refusal::Type)?;
-        let groups = match (edition, kind.count_place()) {
-            (Edition::Sae, Some(place)) => {
-                let count = *frame.get(place).ok_or(Refusal::Short)?;
-                if !is_count(count) {
-                    return Err(Refusal::Octet);
-                }
-                count
-            }
-            _ => MOST_GROUPS,
-        };
-        if frame.len() < kind.shortest_with(groups) {
+        let count = count(kind, edition, frame)?;
+        if frame.len() < kind.shortest_with(count) {
             return Err(Refusal::Short);
         }
-        if frame.len() > kind.written_with(groups) {
+        if frame.len() > kind.written_with(count) {
             return Err(Refusal::Long);
         }
         let address = |at| octets(frame, at).map(Address).ok_or(Refusal::Short);
@@ -497,11 +519,7 @@ impl Message {
         let mut messages = Vec::new();
         let next = |octets: &[u8]| {
             let kind = Kind::of(octets)?;
-            let groups = match kind.count_place() {
-                Some(place) => *octets.get(place).filter(|count| is_count(**count))?,
-                None => MOST_GROUPS,
-            };
-            let length = kind.written_with(groups);
+            let length = kind.written_with(count(kind, Edition::Sae, octets).ok()?);
             Some((Message::read_any(octets.get(..length)?).ok()?, length))
         };
         while let Some((message, length)) = next(octets) {
@@ -527,21 +545,44 @@ impl Message {
         if !is_limited(body, edition, *destination) {
             return Err(Refusal::Octet);
         }
-        let length = kind.written_with(body.groups());
+        let length = kind.written_with(body.count());
         let frame = output.get_mut(..length).ok_or(Refusal::Output)?;
-        frame.fill(0);
-        frame[..6].copy_from_slice(&destination.0);
-        frame[6..12].copy_from_slice(&source.0);
-        frame[12..15].copy_from_slice(&[0x88, 0xE1, 0x01]);
-        frame[15..17].copy_from_slice(&kind.type_number().to_le_bytes());
+        write_head(kind, *destination, *source, frame);
         write_payload(body, &mut frame[19..], &destination.0, &source.0);
         Ok(length)
     }
 }
 
+/// Writes the head of a frame, and zeros behind it.
+pub fn write_head(kind: Kind, destination: Address, source: Address, frame: &mut [u8]) {
+    frame.fill(0);
+    frame[..6].copy_from_slice(&destination.0);
+    frame[6..12].copy_from_slice(&source.0);
+    frame[12..15].copy_from_slice(&[0x88, 0xE1, 0x01]);
+    frame[15..17].copy_from_slice(&kind.type_number().to_le_bytes());
+}
+
 /// Whether a group count is one of 1 to 58.
 fn is_count(count: u8) -> bool {
     (1..=MOST_GROUPS).contains(&count)
+}
+
+/// How many groups or carriers the frame of a message has, where its length goes by them: 1 where it
+/// ends before the count, 6 where the count is out of range.
+fn count(kind: Kind, edition: Edition, frame: &[u8]) -> Result<u16, Refusal> {
+    let (count, most) = match (kind, kind.count_place(), edition) {
+        (Kind::AmpMapReq, ..) => {
+            let carriers = octets(frame, 19).ok_or(Refusal::Short)?;
+            (u16::from_le_bytes(carriers), MOST_CARRIERS)
+        }
+        (_, Some(place), Edition::Sae) => {
+            let count = *frame.get(place).ok_or(Refusal::Short)?;
+            (count.into(), MOST_GROUPS.into())
+        }
+        (_, Some(_), Edition::Iso) => return Ok(MOST_GROUPS.into()),
+        (_, None, _) => return Ok(0),
+    };
+    (1..=most).contains(&count).then_some(count).ok_or(Refusal::Octet)
 }
 
 /// Whether what a message to be written has is what its edition has.
@@ -568,11 +609,19 @@ fn is_limited(body: &Body, edition: Edition, to: Address) -> bool {
             nid.is_valid() && are_ids([car_id, station_id])
         }
         Body::AttenProfile { count, groups, .. } => are_groups(*count, groups),
+        // It has no values here.
+        Body::AmpMapReq { .. } => false,
+        Body::AmpMapCnf { result } => *result <= MAP_FAILURE,
     }
 }
 
 /// Refusal 5: "source, destination or PROFILE's car of the wrong kind".
-fn check_addresses(kind: Kind, to: Address, from: Address, car: Address) -> Result<(), Refusal> {
+pub fn check_addresses(
+    kind: Kind,
+    to: Address,
+    from: Address,
+    car: Address,
+) -> Result<(), Refusal> {
     let good = kind.destination().allows(to) && from.is_unicast() && car.is_unicast();
     good.then_some(()).ok_or(Refusal::AddressKind)
 }
@@ -613,6 +662,12 @@ fn is_fixed(kind: Kind, edition: Edition, p: &[u8], to: &[u8], from: &[u8]) -> b
         Kind::MatchReq => matching(0x3E, from, to),
         Kind::MatchCnf => matching(0x56, to, from) && p[72] <= 0x3F,
         Kind::AttenProfile => is_sae || p[6] == MOST_GROUPS,
+        // The unused half of the last octet, where the number of carriers is odd.
+        Kind::AmpMapReq => {
+            let carriers = usize::from(u16::from_le_bytes([p[0], p[1]]));
+            carriers % 2 == 0 || p[2 + carriers / 2] <= 0x0F
+        }
+        Kind::AmpMapCnf => p[0] <= MAP_FAILURE,
     }
 }
 
@@ -658,6 +713,8 @@ fn write_payload(body: &Body, payload: &mut [u8], to: &[u8], from: &[u8]) {
         Body::AttenProfile { car, count, groups } => {
             &[(0, &car.0), (6, &[*count]), (8, counted(*count, groups))]
         }
+        Body::AmpMapReq { carriers } => &[(0, &carriers.to_le_bytes())],
+        Body::AmpMapCnf { result } => &[(0, &[*result])],
     };
     for (at, octets) in parts {
         payload[*at..*at + octets.len()].copy_from_slice(octets);

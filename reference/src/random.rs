@@ -42,9 +42,7 @@ impl Random {
         Address([a & 0xFE, b, c, d, e, last])
     }
 
-    /// The message's frame, now and then with reserved octets set: so often in a hundred damaged,
-    /// else now and then with its padding cut or filled. Damage may put one of our addresses in
-    /// the wrong place.
+    /// The message's frame, now and then with something changed.
     pub fn frame(
         &mut self,
         message: &Message,
@@ -53,22 +51,36 @@ impl Random {
         ours: [Address; 2],
     ) -> Vec<u8> {
         let mut octets = message.to_frame(edition).unwrap_or_default();
+        self.change(&mut octets, message.body.kind(), message.body.count(), damage, ours);
+        octets
+    }
+
+    /// Changes the frame of a message with so many groups or carriers: now and then reserved octets
+    /// are set, so often in a hundred it is damaged, else now and then its padding is cut or filled.
+    /// Damage may put one of our addresses in the wrong place.
+    pub fn change(
+        &mut self,
+        octets: &mut Vec<u8>,
+        kind: Kind,
+        count: u16,
+        damage: usize,
+        ours: [Address; 2],
+    ) {
         if self.chance(20) {
-            self.set_reserved(message.body.kind(), &mut octets);
+            self.set_reserved(kind, octets);
         }
         if self.chance(damage) {
-            self.damage(&mut octets, ours);
+            self.damage(octets, ours);
             if self.chance(30) {
-                self.damage(&mut octets, ours);
+                self.damage(octets, ours);
             }
         } else if self.chance(5) {
-            let shortest = message.body.kind().shortest_with(message.body.groups());
+            let shortest = kind.shortest_with(count);
             let padded = octets.len().saturating_sub(shortest);
             octets.truncate(shortest + self.below(padded + 1));
             let padding = self.next() as u8;
             octets.iter_mut().skip(shortest).for_each(|octet| *octet = padding);
         }
-        octets
     }
 
     /// Sets the reserved octets to any values, or one bit of them.
@@ -118,6 +130,7 @@ impl Random {
     }
 }
 
-fn replace(octets: &mut [u8], at: usize, by: &[u8]) {
+/// Puts other octets from a place on, as far as there are any.
+pub fn replace(octets: &mut [u8], at: usize, by: &[u8]) {
     octets.iter_mut().skip(at).zip(by).for_each(|(octet, new)| *octet = *new);
 }

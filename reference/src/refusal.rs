@@ -26,6 +26,7 @@ pub enum Refusal {
     EmptyRun,
     OtherTry,
     GroupCount,
+    Carriers,
 }
 
 impl Refusal {
@@ -35,7 +36,7 @@ impl Refusal {
 }
 
 /// What each number means, from 1 on.
-const WORDS: [&str; 23] = [
+const WORDS: [&str; 24] = [
     "frame too short",
     "frame head wrong",
     "unknown message type",
@@ -59,11 +60,12 @@ const WORDS: [&str; 23] = [
     "a request with an empty run",
     "START of the other try",
     "another group count than the record's",
+    "another number of carriers",
 ];
 
 /// The numbers that a station gives, and those that a car gives.
-pub const OF_STATIONS: [u32; 20] =
-    [1, 2, 3, 4, 5, 6, 7, 8, 9, 10, 11, 12, 13, 14, 15, 16, 17, 21, 22, 23];
+pub const OF_STATIONS: [u32; 21] =
+    [1, 2, 3, 4, 5, 6, 7, 8, 9, 10, 11, 12, 13, 14, 15, 16, 17, 21, 22, 23, 24];
 pub const OF_CARS: [u32; 15] = [1, 2, 3, 4, 5, 6, 7, 8, 11, 14, 15, 16, 18, 19, 20];
 
 /// A refusal number in words.

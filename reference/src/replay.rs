@@ -75,13 +75,13 @@ pub fn log(seed: u64, events: u32) -> io::Result<Vec<u8>> {
     for event in session {
         let Answer { refusal, indication, octets: frames } = event.happen(&mut station).into();
         let (kind, reading, octets) = event.parts();
-        let lengths = [octets, &frames].map(|octets| octets.len() as u32);
+        let lengths = [octets.len(), frames.len()].map(|length| length as u32);
         whole += 2 * ENTRY as u64 + u64::from(lengths[0]) + u64::from(lengths[1]);
         if whole > LONGEST as u64 {
             break;
         }
         log.events.push(Event { kind, reading, length: lengths[0] });
-        log.octets.extend(octets);
+        log.octets.extend_from_slice(&octets);
         log.replies.push(Reply { refusal, indication, length: lengths[1] });
         log.frames.extend(frames);
     }

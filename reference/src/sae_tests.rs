@@ -18,8 +18,15 @@ const MODEM: Address = address(0xBB);
 const RUN: RunId = RunId([1, 2, 3, 4, 5, 6, 7, 8]);
 const NID: Nid = Nid([1, 2, 3, 4, 5, 6, 0x3F]);
 const NMK: Nmk = Nmk([0x4B; 16]);
-const CONFIG: Config =
-    Config { station: US, modem: MODEM, nid: NID, nmk: NMK, exempt: false, edition: SAE };
+const CONFIG: Config = Config {
+    station: US,
+    modem: MODEM,
+    nid: NID,
+    nmk: NMK,
+    exempt: false,
+    edition: SAE,
+    carriers: 9,
+};
 const REQUEST: Body = Body::ParmReq { run: RUN };
 const FIRST: Body = Body::StartAttenChar { run: RUN, attempt: Try::First };
 const LATER: Body = Body::StartAttenChar { run: RUN, attempt: Try::Later };
@@ -548,7 +555,7 @@ fn every_octet_but_the_reserved_ones_is_looked_at() {
     };
     for (message, kind) in eleven().into_iter().zip(Kind::ALL) {
         let frame = message.to_frame(SAE).unwrap();
-        let shortest = kind.shortest_with(message.body.groups());
+        let shortest = kind.shortest_with(message.body.count());
         assert_eq!((message.body.kind(), Message::read(&frame, SAE)), (kind, Ok(message)));
         for (at, bit) in (0..frame.len()).flat_map(|at| (0..8).map(move |bit| (at, bit))) {
             let mut changed = frame.clone();
@@ -557,7 +564,7 @@ fn every_octet_but_the_reserved_ones_is_looked_at() {
             assert_eq!(read == Ok(message), at >= shortest || is_reserved(kind, at));
             if let Ok(other) = read {
                 // What was read is written again, with zeros in reserved octets and padding.
-                changed[kind.shortest_with(other.body.groups())..].fill(0);
+                changed[kind.shortest_with(other.body.count())..].fill(0);
                 (0..changed.len())
                     .filter(|at| is_reserved(kind, *at))
                     .for_each(|at| changed[at] = 0);

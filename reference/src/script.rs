@@ -1,9 +1,11 @@
 //! The bench script: its reader and writer, and the output's ("The bench script"). What the car's
 //! script shares with it stands here too.
 
+use crate::amplitude;
 use crate::messages::{Address, Edition, Nid, Nmk};
 use crate::refusal::Refusal;
 use crate::station::{Config, Indication, Pilot, Service, Station};
+use std::borrow::Cow;
 use std::io::{self, BufRead, BufReader, Read, Write};
 
 /// The most octets of an event, and of the output lent to it.
@@ -17,6 +19,8 @@ pub enum Event {
     Terminate,
     LinkUp,
     Query { car: Address },
+    Reduction { values: Vec<u8>, levels: Vec<i16>, room: usize },
+    Inspection,
 }
 
 /// An event's answer: its indication and the octets given back, or the refusal.
@@ -81,20 +85,37 @@ impl Event {
                 let Service { heard, least, greatest } = station.service(*car)?;
                 return Ok((None, [&heard.to_le_bytes()[..], &least, &greatest].concat()));
             }
+            Event::Reduction { values, levels, room } => {
+                output.resize(*room, 0);
+                let written = amplitude::reduce(values, levels, &mut output)?;
+                output.truncate(written);
+                return Ok((None, output));
+            }
+            Event::Inspection => {
+                let (state, car) = station.inspect()?;
+                let car = car.map_or([0; 6], |car| car.0);
+                return Ok((None, [&state.to_le_bytes()[..], &car].concat()));
+            }
         };
         output.truncate(accepted.written);
         Ok((accepted.indication, output))
     }
 
     /// The event's kind, reading and octets, as scripts and logs have them.
-    pub fn parts(&self) -> (u32, u32, &[u8]) {
+    pub fn parts(&self) -> (u32, u32, Cow<'_, [u8]>) {
         match self {
-            Event::Frame { octets, .. } => (0, 0, octets),
-            Event::Tick { reading, .. } => (1, *reading, &[]),
-            Event::Pilot { to, reading } => (2, *reading, to.octet()),
-            Event::Terminate => (3, 0, &[]),
-            Event::LinkUp => (4, 0, &[]),
-            Event::Query { car } => (5, 0, &car.0),
+            Event::Frame { octets, .. } => (0, 0, octets.into()),
+            Event::Tick { reading, .. } => (1, *reading, [][..].into()),
+            Event::Pilot { to, reading } => (2, *reading, vec![*to as u8].into()),
+            Event::Terminate => (3, 0, [][..].into()),
+            Event::LinkUp => (4, 0, [][..].into()),
+            Event::Query { car } => (5, 0, car.0[..].into()),
+            Event::Reduction { values, levels, .. } => {
+                let levels: Vec<u8> = levels.iter().flat_map(|level| level.to_le_bytes()).collect();
+                let count = (values.len() as u32).to_le_bytes();
+                (6, 0, [&count[..], values, &levels].concat().into())
+            }
+            Event::Inspection => (7, 0, [][..].into()),
         }
     }
 
@@ -110,6 +131,11 @@ impl Event {
             (3, []) => Event::Terminate,
             (4, []) => Event::LinkUp,
             (5, &[a, b, c, d, e, f]) => Event::Query { car: Address([a, b, c, d, e, f]) },
+            (6, octets) => match reduction(octets) {
+                Some((values, levels)) => Event::Reduction { values, levels, room },
+                None => return Err(broken_event(kind)),
+            },
+            (7, []) => Event::Inspection,
             _ => return Err(broken_event(kind)),
         })
     }
@@ -117,11 +143,26 @@ impl Event {
     pub fn write(&self, script: &mut impl Write) -> io::Result<()> {
         let (kind, reading, octets) = self.parts();
         let room = match self {
-            Event::Frame { room, .. } | Event::Tick { room, .. } => *room,
+            Event::Frame { room, .. }
+            | Event::Tick { room, .. }
+            | Event::Reduction { room, .. } => *room,
             _ => 0,
         };
-        write_entry(script, kind, reading, room, octets)
+        write_entry(script, kind, reading, room, &octets)
     }
+}
+
+/// The parts of a reduction: "the number of values as a number, the values, the levels as two octets
+/// each, low octet first".
+fn reduction(octets: &[u8]) -> Option<(Vec<u8>, Vec<i16>)> {
+    let (count, rest) = octets.split_first_chunk()?;
+    let count = usize::try_from(u32::from_le_bytes(*count)).ok()?;
+    let (values, levels) = rest.split_at_checked(count)?;
+    if levels.len() % 2 != 0 {
+        return None;
+    }
+    let level = |pair: &[u8]| i16::from_le_bytes([pair[0], pair[1]]);
+    Some((values.to_vec(), levels.chunks_exact(2).map(level).collect()))
 }
 
 /// An event as it stands in a script: "kind, reading, room, length, octets".
@@ -146,6 +187,7 @@ pub fn write_head(script: &mut impl Write, config: &Config, events: u32) -> io::
     script.write_all(&config.nmk.0)?;
     write_number(script, u32::from(config.exempt))?;
     write_number(script, u32::from(config.edition == Edition::Sae))?;
+    write_number(script, config.carriers)?;
     write_number(script, events)
 }
 
@@ -261,7 +303,7 @@ impl<R: Read> Entries<R> {
 /// An event that breaks the layout by its kind, or by its length.
 pub fn broken_event(kind: u32) -> io::Error {
     match kind {
-        0..=5 => broken("an event of the wrong length"),
+        0..=7 => broken("an event of the wrong length"),
         _ => broken("an unknown kind of event"),
     }
 }
@@ -286,6 +328,7 @@ impl<R: Read> Script<R> {
                 false => Edition::Iso,
                 true => Edition::Sae,
             },
+            carriers: take_number(&mut input)?,
         };
         Ok(Script { entries: Entries::open(input)?, config })
     }

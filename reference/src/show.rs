@@ -1,5 +1,6 @@
 //! A readable line for each event of a script.
 
+use crate::amplitude;
 use crate::compare;
 use crate::messages::{Address, Body, Edition, Kind, Message};
 use crate::script::{Answer, Event};
@@ -13,6 +14,11 @@ pub fn line(event: &Event, station: &Station, answer: &Answer) -> String {
     let (name, car) = describe(event, station.edition());
     let reply = match (answer.refusal, event, answer.octets.first()) {
         (0, Event::Query { .. }, _) => service(&answer.octets),
+        (0, Event::Reduction { .. }, _) => reductions(&answer.octets),
+        (0, Event::Inspection, _) => match compare::inspection(&answer.octets) {
+            Some(words) => words,
+            None => compare::frames(&answer.octets),
+        },
         (0, _, None) => "-".into(),
         (0, _, Some(_)) => compare::frames(&answer.octets),
         (refusal, ..) => compare::refused(refusal),
@@ -38,6 +44,12 @@ fn service(octets: &[u8]) -> String {
     format!("{heard} sounds heard, values {lowest} to {highest}, widest spread {widest}")
 }
 
+/// Reductions in words.
+fn reductions(octets: &[u8]) -> String {
+    let (least, most) = (octets.iter().min(), octets.iter().max());
+    format!("reductions {} to {}", least.copied().unwrap_or(0), most.copied().unwrap_or(0))
+}
+
 /// The event in words, and the car it names.
 fn describe(event: &Event, edition: Edition) -> (String, Option<Address>) {
     match event {
@@ -52,6 +64,14 @@ fn describe(event: &Event, edition: Edition) -> (String, Option<Address>) {
                     }
                     _ => ("CM_VALIDATE.REQ first".into(), message.car()),
                 },
+                Body::AmpMapReq { carriers } => {
+                    let mut values = vec![0; carriers.into()];
+                    let asked = match amplitude::values(octets, &mut values) {
+                        Ok(_) => values.iter().max().copied().unwrap_or(0),
+                        Err(_) => 0,
+                    };
+                    (format!("CM_AMP_MAP.REQ {carriers}, most {asked}"), message.car())
+                }
                 body => (body.kind().name().into(), message.car()),
             },
             Err(_) => (format!("{} damaged", Kind::of(octets).map_or("frame", Kind::name)), None),
@@ -61,6 +81,8 @@ fn describe(event: &Event, edition: Edition) -> (String, Option<Address>) {
         Event::Terminate => ("terminate".into(), None),
         Event::LinkUp => ("link up".into(), None),
         Event::Query { car } => ("service query".into(), Some(*car)),
+        Event::Reduction { values, .. } => (format!("reduction, {} values", values.len()), None),
+        Event::Inspection => ("inspection".into(), None),
     }
 }
 
@@ -96,7 +118,7 @@ fn state(station: &Station, car: Option<Address>) -> String {
         State::Matching { admission: 0 } => format!("Matching (closed): {held}"),
         State::Matching { .. } => format!("Matching: {held}"),
         State::Joining { left, .. } => format!("Joining, {left} ms"),
-        State::Matched => "Matched".into(),
+        State::Matched { car } => format!("Matched with {car}"),
     }
 }
 

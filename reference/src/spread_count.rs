@@ -8,7 +8,7 @@ use crate::station::{Config, Record, State, Station};
 
 const SPREAD: &str = "91 spread";
 
-const ROWS: [&str; 33] = [
+const ROWS: [&str; 35] = [
     "query: 11 in Unmatched",
     "query: 11 in Joining",
     "query: 11 in Matched",
@@ -42,6 +42,8 @@ const ROWS: [&str; 33] = [
     "later profile: neither",
     "last profile: least lowered",
     "last profile: greatest raised",
+    "SAE query after the last of a later try lowered the least",
+    "SAE query after the last of a later try raised the greatest",
 ];
 
 /// A table's rows on the spread.
@@ -123,6 +125,9 @@ impl Spreads {
         if let Some((_, lowered, raised)) = self.last.iter().find(|(car, ..)| own(car)) {
             add(*lowered, "query after the last lowered the least");
             add(*raised, "query after the last raised the greatest");
+            let later = record.later;
+            add(later && *lowered, "SAE query after the last of a later try lowered the least");
+            add(later && *raised, "SAE query after the last of a later try raised the greatest");
         }
         rows
     }

@@ -1,7 +1,8 @@
 //! The station: state, records, the five calls and the service query ("The station").
 
 use crate::messages::{Address, Body, Edition, Groups, Id, Kind, Message, Nid, Nmk, RunId, Try};
-use crate::messages::{FAILURE, MOST_GROUPS, NOT_REQUIRED, NO_ID, READY, SUCCESS};
+use crate::messages::{FAILURE, MAP_SUCCESS, MOST_CARRIERS, MOST_GROUPS};
+use crate::messages::{NOT_REQUIRED, NO_ID, READY, SUCCESS};
 use crate::refusal::Refusal;
 
 const ADMISSION: u32 = 50_000;
@@ -29,6 +30,8 @@ pub struct Config {
     /// Whether validation is not required.
     pub exempt: bool,
     pub edition: Edition,
+    /// How many carriers we have.
+    pub carriers: u32,
 }
 
 /// The control pilot's states.
@@ -45,31 +48,20 @@ pub enum Pilot {
 impl Pilot {
     pub const ALL: [Pilot; 6] = [Pilot::A, Pilot::B, Pilot::C, Pilot::D, Pilot::E, Pilot::F];
 
-    /// The state as scripts and logs have it: 0 to 5 for A to F.
-    pub fn octet(self) -> &'static [u8] {
-        match self {
-            Pilot::A => &[0],
-            Pilot::B => &[1],
-            Pilot::C => &[2],
-            Pilot::D => &[3],
-            Pilot::E => &[4],
-            Pilot::F => &[5],
-        }
-    }
-
     /// B, C or D: a car is plugged in.
     pub fn is_plugged(self) -> bool {
         matches!(self, Pilot::B | Pilot::C | Pilot::D)
     }
 }
 
-/// Matching carries admission's remaining time (closed at 0), Joining its own.
+/// Matching carries admission's remaining time (closed at 0), Joining its own; Joining and Matched
+/// have the car.
 #[derive(Clone, Copy, Debug, PartialEq, Eq)]
 pub enum State {
     Unmatched,
     Matching { admission: u32 },
     Joining { left: u32, car: Address, run: RunId },
-    Matched,
+    Matched { car: Address },
 }
 
 #[derive(Clone, Copy, Debug, PartialEq, Eq)]
@@ -220,8 +212,8 @@ impl Station {
     /// Link up: in Joining, Matched and "link established"; else 8.
     pub fn link_up(&mut self) -> Answer {
         self.config()?;
-        let State::Joining { .. } = self.state else { return Err(Refusal::State) };
-        self.state = State::Matched;
+        let State::Joining { car, .. } = self.state else { return Err(Refusal::State) };
+        self.state = State::Matched { car };
         Ok(Accepted { written: 0, indication: Some(Indication::LinkEstablished) })
     }
 
@@ -234,6 +226,17 @@ impl Station {
         Ok(Service { heard: heard.count_ones(), least: *least, greatest: *greatest })
     }
 
+    /// The inspection: the state's number, and the car in Joining and Matched.
+    pub fn inspect(&self) -> Result<(u32, Option<Address>), Refusal> {
+        self.config()?;
+        Ok(match self.state {
+            State::Unmatched => (0, None),
+            State::Matching { .. } => (1, None),
+            State::Joining { car, .. } => (2, Some(car)),
+            State::Matched { car } => (3, Some(car)),
+        })
+    }
+
     /// A received frame: "16, 15, reading, 17, 7, 8, 21, then 9 and 10, or 11, 12, then 13, 22 or
     /// 23".
     pub fn receive(&mut self, frame: &[u8], output: &mut [u8]) -> Answer {
@@ -243,6 +246,15 @@ impl Station {
         let car = message.car().ok_or(Refusal::CarOnly)?;
         config.concerns(&message, car)?;
         match (self.state, message.body) {
+            (State::Matched { car: matched }, Body::AmpMapReq { carriers }) => {
+                if car != matched {
+                    return Err(Refusal::NoRecord);
+                }
+                if u32::from(carriers) != config.carriers {
+                    return Err(Refusal::Carriers);
+                }
+                output.send(Body::AmpMapCnf { result: MAP_SUCCESS }, config.station, car)?;
+            }
             (State::Matching { .. }, _) => self.matching(car, &message, config, &mut output)?,
             (
                 State::Joining { car: joining, run: its, .. },
@@ -330,7 +342,9 @@ impl Station {
             Body::ParmCnf { .. }
             | Body::AttenChar { .. }
             | Body::ValidateCnf { .. }
-            | Body::MatchCnf { .. } => return Err(Refusal::CarOnly),
+            | Body::MatchCnf { .. }
+            | Body::AmpMapCnf { .. } => return Err(Refusal::CarOnly),
+            Body::AmpMapReq { .. } => return Err(Refusal::State),
         }
         Ok(())
     }
@@ -373,7 +387,7 @@ impl Station {
         self.reading = reading;
         let mut indication = None;
         match &mut self.state {
-            State::Unmatched | State::Matched => {}
+            State::Unmatched | State::Matched { .. } => {}
             State::Matching { admission } => {
                 let mut confirmations = [None; RECORDS];
                 for (place, confirmation) in self.records.iter_mut().zip(&mut confirmations) {
@@ -398,7 +412,7 @@ impl Station {
         self.free_all();
         match std::mem::replace(&mut self.state, State::Unmatched) {
             State::Matching { .. } | State::Joining { .. } => Some(Indication::NoLink),
-            State::Unmatched | State::Matched => None,
+            State::Unmatched | State::Matched { .. } => None,
         }
     }
 
@@ -435,10 +449,12 @@ impl Station {
 }
 
 impl Config {
-    /// "Our address and the modem's unicast and different, NID below 2^54."
+    /// "Our address and the modem's unicast and different, NID below 2^54", and our carriers from 1
+    /// to 1,155.
     fn is_good(&self) -> bool {
         let unicast = self.station.is_unicast() && self.modem.is_unicast();
-        unicast && self.station != self.modem && self.nid.is_valid()
+        let carriers = (1..=MOST_CARRIERS.into()).contains(&self.carriers);
+        unicast && self.station != self.modem && self.nid.is_valid() && carriers
     }
 
     /// Refusal 7: "unicast not to us; PROFILE's source not our modem; car is us or our modem".

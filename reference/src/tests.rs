@@ -25,6 +25,7 @@ const CONFIG: Config = Config {
     nmk: Nmk([0x4B; 16]),
     exempt: false,
     edition: Edition::Iso,
+    carriers: 917,
 };
 const REQUEST: Body = Body::ParmReq { run: RUN };
 const START: Body = Body::start(RUN);
@@ -623,7 +624,7 @@ fn joining_and_link_up() {
     assert_eq!(bench.link_up(), linked);
     assert_eq!(bench.link_up(), Err(8));
     bench.refuses(8, &[MATCH, REQUEST]);
-    assert_eq!((bench.tick(60_000), bench.0.state), (NOTHING, State::Matched));
+    assert_eq!((bench.tick(60_000), bench.0.state), (NOTHING, State::Matched { car: CAR }));
     assert_eq!(bench.pilot(Pilot::E, 7), NOTHING);
     assert_eq!((bench.0.state, bench.0.reading), (State::Unmatched, 7));
     assert_eq!(Bench::awaiting().link_up(), Err(8));
@@ -907,10 +908,10 @@ fn a_script_is_answered_event_by_event() {
     for length in 0..whole.len() {
         let mut part = Vec::new();
         assert!(crate::run(&whole[..length], &mut part).is_err());
-        assert!(output.starts_with(&part) && part.is_empty() == (length < 47));
+        assert!(output.starts_with(&part) && part.is_empty() == (length < 51));
     }
     assert!(crate::run(&[&whole[..], &[0]].concat()[..], &mut Vec::new()).is_err());
-    for (at, octet) in [(47, 6), (56, 0x10), (60, 0x10), (63, 6), (59, 2)] {
+    for (at, octet) in [(51, 8), (60, 0x10), (64, 0x10), (67, 6), (63, 2)] {
         let (mut broken, mut output) = (whole.clone(), Vec::new());
         broken[at] = octet;
         broken[at + 1] |= u8::from(octet == 0x10);
@@ -945,10 +946,10 @@ fn random_scripts_come_from_their_seed_and_compare_equal() {
 /// Seeds and how many events of them. The first two are covered: an ISO and an SAE station, each
 /// of which reaches every row but 16, the other edition's and those of a station that doesn't
 /// require validation; the third is covered and reaches these; the last has a bad configuration.
-const FULL: (u64, u32) = (146, 2_600);
-const SAE: (u64, u32) = (92, 3_000);
-const EXEMPT: (u64, u32) = (13, 700);
-const BAD: (u64, u32) = (2, 250);
+const FULL: (u64, u32) = (18, 2_600);
+const SAE: (u64, u32) = (72, 2_700);
+const EXEMPT: (u64, u32) = (7, 700);
+const BAD: (u64, u32) = (67, 250);
 
 fn random_script(seed: u64, events: u32) -> Vec<u8> {
     let mut script = Vec::new();
@@ -995,14 +996,19 @@ fn a_random_script_reaches_every_row() {
             Edition::Sae => !is_iso(row),
         };
         let own: Vec<&&String> = others.iter().filter(is_own).collect();
-        assert!(matches!(own[..], [row] if row.contains("16 bad configuration")), "{own:?}");
+        assert!(matches!(own[..], [row] if row.contains("passage  ")), "{own:?}");
+        assert!(own[0].contains("  bad configuration  "));
         assert_eq!(full.len(), rows);
     }
     let reached = counted(&covered_script(EXEMPT));
     assert!(reached.iter().filter(|row| is_exempt(row)).all(|row| !row.ends_with(" 0")));
+    // A badly configured station accepts nothing; reductions are no calls of it.
     let bad = counted(&random_script(BAD.0, BAD.1));
-    let row = bad.iter().find(|row| row.contains("16 bad configuration")).unwrap();
-    assert!(row.ends_with(" 251"));
+    let ends =
+        |name: &str, end: &str| bad.iter().any(|row| row.contains(name) && row.ends_with(end));
+    assert!(ends(" 16 bad configuration ", " 246") && ends("  bad configuration  ", " 1"));
+    let accepted = bad.iter().filter(|row| row.starts_with("accepted") && !row.ends_with(" 0"));
+    assert!(accepted.into_iter().all(|row| row.contains(" reduction ")));
     assert_eq!((reached.len(), bad.len()), (rows, rows));
 }
 
