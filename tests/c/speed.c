@@ -38,7 +38,7 @@ void run_tick(uint32_t reading) __attribute__((noinline));
 static void plug_in(void)
 {
     (void)lahzavar_station_configure(&station, lahzavar_address(us), lahzavar_address(modem), lahzavar_nid(nid), nmk, false,
-                                     edition);
+                                     edition, LAHZAVAR_CARRIERS);
     (void)lahzavar_station_pilot(&station, LAHZAVAR_PILOT_B, 0);
 }
 

@@ -1,22 +1,30 @@
 /*
- * The input of the speed measurement, on standard output: speed_input FRAMES SEED [sae]
+ * The inputs of the speed measurement, on standard output: speed_input INPUT FRAMES SEED [sae]
  *
- * Of every ten frames one is the next of our own car's matching, and nine are foreign, in random order, each of one of ten
- * kinds with the same chance. Each frame is preceded by its length in two octets, low one first. Length 0 stands for the
- * end of our car's matching: link up, then the pilot goes to A and to B again. With `sae` the frames are those of the SAE
- * edition, else those of the ISO one; our car's matching is a first try.
+ * Of every ten frames one is the next of our own car's matching, and nine are foreign. With the input `foreign` each is of
+ * one of ten kinds with the same chance, and refused. With `neighbours` they are what is heard of twenty-four cars that
+ * begin to match with stations of their own when our car does: each asks and is answered in turn, and from then on the next
+ * frame is one of any of them. With our car, the first of them hold every record, and the requests of the others are
+ * refused.
+ *
+ * Each frame is preceded by its length in two octets, low one first. Length 0 stands for the end of our car's matching: link
+ * up, then the pilot goes to A and to B again. With `sae` the frames are those of the SAE edition, else those of the ISO
+ * one; all matchings are first tries.
  */
 #include "random.h"
-#include "sae_frames.h"
+#include "speed_frames.h"
 
 #include <stdio.h>
 #include <stdlib.h>
 
-static const uint8_t us[6] = {2, 0, 0, 0, 0, 0xAA};
-static const uint8_t our_modem[6] = {2, 0, 0, 0, 0, 0xBB};
-static struct car our_car = {{2, 0, 0, 0, 0, 1}, {0}};
-static struct car neighbour = {{2, 0, 0, 0, 1, 0}, {0}};
-static uint8_t other_station[6] = {2, 0, 0, 0, 2, 0};
+#define NEIGHBOURS 24u
+
+static enum lahzavar_edition edition = LAHZAVAR_ISO;
+static uint8_t frame[FRAME_MOST];
+static struct told ours;
+static struct told neighbours[NEIGHBOURS];
+static unsigned heard[NEIGHBOURS]; /* how many frames of each, */
+static unsigned asking;            /* and of the requests and their answers */
 
 static void fill(uint8_t *octets, size_t count)
 {
@@ -26,7 +34,7 @@ static void fill(uint8_t *octets, size_t count)
     }
 }
 
-static void put(const uint8_t *frame, size_t length)
+static void put(size_t length)
 {
     putchar((int)(length & 0xFF));
     putchar((int)(length >> 8));
@@ -36,170 +44,131 @@ static void put(const uint8_t *frame, size_t length)
     }
 }
 
-static size_t write_parm_cnf(uint8_t *frame)
+static void put_kind(enum kind kind, const struct told *told)
 {
-    static const uint8_t fixed[9] = {0xFF, 0xFF, 0xFF, 0xFF, 0xFF, 0xFF, 0x0A, 0x06, 0x01};
-    size_t length = write_head(frame, neighbour.address, other_station, CM_SLAC_PARM_CNF, 25);
-    memcpy(frame + FRAME_HEAD, fixed, 9);
-    memcpy(frame + FRAME_HEAD + 9, neighbour.address, 6);
-    memcpy(frame + FRAME_HEAD + 17, neighbour.run, 8);
-    return length;
+    put(write_kind(frame, edition, kind, told));
 }
 
-static size_t write_report(uint8_t *frame)
+/* A car and its station, with a new run and all that its frames tell. */
+static void tell(struct told *told, unsigned place, unsigned car, const uint8_t station[6])
 {
-    size_t length = write_head(frame, neighbour.address, other_station, CM_ATTEN_CHAR_IND, 52 + LAHZAVAR_GROUPS);
-    memcpy(frame + FRAME_HEAD + 2, neighbour.address, 6);
-    memcpy(frame + FRAME_HEAD + 8, neighbour.run, 8);
-    frame[FRAME_HEAD + 50] = 10;
-    frame[FRAME_HEAD + 51] = LAHZAVAR_GROUPS;
-    fill(frame + FRAME_HEAD + 52, LAHZAVAR_GROUPS);
-    return length;
+    memset(told, 0, sizeof *told);
+    told->car.address[0] = 2;
+    told->car.address[4] = (uint8_t)place;
+    told->car.address[5] = (uint8_t)car;
+    fill(told->car.run, 8);
+    told->car.run[0] |= 1;
+    memcpy(told->station, station, 6);
+    told->value = (unsigned)below(256);
+    told->groups = LAHZAVAR_GROUPS;
+    told->values = first_try;
+    fill(told->ids, SAE_IDS);
 }
 
-static size_t write_match_cnf(uint8_t *frame)
+/* One foreign frame; the comments give the refusal's number. In SAE it is of any try and any number of groups. */
+static void put_foreign(void)
 {
-    size_t length = write_head(frame, neighbour.address, other_station, CM_SLAC_MATCH_CNF, 90);
-    frame[FRAME_HEAD + 2] = 0x56;
-    memcpy(frame + FRAME_HEAD + 21, neighbour.address, 6);
-    memcpy(frame + FRAME_HEAD + 44, other_station, 6);
-    memcpy(frame + FRAME_HEAD + 50, neighbour.run, 8);
-    fill(frame + FRAME_HEAD + 66, 6);
-    fill(frame + FRAME_HEAD + 74, 16);
-    return length;
+    static const enum kind kinds[10] = {
+        RSP,           MATCH_REQ,            /* to another station: 7 */
+        PARM_CNF,      REPORT,    MATCH_CNF, /* to its car: 17 */
+        START,         SOUND,     PROFILE,   /* of a car without a record: 11 */
+        OTHER_TYPE,                          /* 3 */
+        OTHER_PROTOCOL                       /* 2 */
+    };
+    enum kind kind = kinds[below(10)];
+    uint8_t other[6] = {2, 0, 0, 0, 2, (uint8_t)below(256)};
+    struct told told;
+    tell(&told, 1, (unsigned)below(256), kind == PROFILE ? us : other);
+    told.count = (unsigned)below(8);
+    told.groups = 1 + (unsigned)below(LAHZAVAR_GROUPS);
+    told.values = below(2) == 0 ? first_try : later_try;
+    put_kind(kind, &told);
 }
 
-/* A frame of another protocol: same length, another ethertype. */
-static size_t write_other_protocol(uint8_t *frame)
+/* A request, three starts, a sound and a profile for each of the try's, response and match request. */
+static unsigned matching_frames(void)
 {
-    size_t length = write_head(frame, broadcast_address, neighbour.address, CM_SLAC_PARM_REQ, 10);
-    frame[12] = 0x86;
-    frame[13] = 0xDD;
-    fill(frame + FRAME_HEAD, 41);
-    return length;
+    return 6u + 2u * (edition == LAHZAVAR_SAE ? 8u : 10u);
 }
 
-/* One foreign frame; the comments give the refusal's number. */
-static size_t write_foreign(uint8_t *frame)
+/* The frame of a car's matching at a place. */
+static void put_matching(struct told *told, unsigned at)
 {
-    neighbour.address[5] = (uint8_t)below(256);
-    other_station[5] = (uint8_t)below(256);
-    fill(neighbour.run, 8);
-    switch (below(10)) {
-    case 0: /* 7 */
-        return write_rsp(frame, &neighbour, other_station);
-    case 1: /* 7 */
-        return write_match_req(frame, &neighbour, other_station);
-    case 2: /* 17 */
-        return write_parm_cnf(frame);
-    case 3: /* 17 */
-        return write_report(frame);
-    case 4: /* 17 */
-        return write_match_cnf(frame);
-    case 5: /* 11 */
-        return write_start(frame, &neighbour);
-    case 6: /* 11 */
-        return write_sound(frame, &neighbour, below(10));
-    case 7: /* 11 */
-        return write_profile(frame, our_modem, us, neighbour.address, below(256));
-    case 8: /* 3 */
-        return write_head(frame, other_station, neighbour.address, CM_SET_KEY_REQ + below(0x50), 38);
-    default: /* 2 */
-        return write_other_protocol(frame);
-    }
+    unsigned last = matching_frames() - 1;
+    told->count = at < 4 ? 0 : (at - 4) / 2;
+    told->value = (unsigned)below(256);
+    put_kind(at == 0          ? PARM_REQ
+             : at < 4         ? START
+             : at == last - 1 ? RSP
+             : at == last     ? MATCH_REQ
+             : at % 2 == 0    ? SOUND
+                              : PROFILE,
+             told);
 }
 
-/* The same in SAE, with any number of groups. */
-static size_t write_foreign_sae(uint8_t *frame)
+/* What is heard of a neighbour's matching: its frames, and what its own station sends between them. */
+static void put_heard(struct told *told, unsigned at)
 {
-    uint8_t any[SAE_IDS + 7 + 16];
-    const uint8_t *values = below(2) == 0 ? first_try : later_try;
-    unsigned groups = 1 + (unsigned)below(LAHZAVAR_GROUPS);
-    neighbour.address[5] = (uint8_t)below(256);
-    other_station[5] = (uint8_t)below(256);
-    fill(neighbour.run, 8);
-    fill(any, sizeof any);
-    any[SAE_IDS + 6] &= 0x3F; /* of the NID */
-    switch (below(10)) {
-    case 0: /* 7 */
-        return write_sae_rsp(frame, &neighbour, other_station, any);
-    case 1: /* 7 */
-        return write_sae_match_req(frame, &neighbour, other_station, any);
-    case 2: /* 17 */
-        return write_sae_parm_cnf(frame, &neighbour, other_station, values);
-    case 3: /* 17 */
-        return write_sae_report(frame, &neighbour, other_station, values[0], groups, any[0]);
-    case 4: /* 17 */
-        return write_sae_match_cnf(frame, &neighbour, other_station, any, any + SAE_IDS, any + SAE_IDS + 7);
-    case 5: /* 11 */
-        return write_sae_start(frame, &neighbour, values);
-    case 6: /* 11 */
-        return write_sae_sound(frame, &neighbour, (unsigned)below(values[0]), any);
-    case 7: /* 11 */
-        return write_sae_profile(frame, our_modem, us, neighbour.address, groups, any[0]);
-    case 8: /* 3 */
-        return write_head(frame, other_station, neighbour.address, CM_SET_KEY_REQ + (unsigned)below(0x50), 38);
-    default: /* 2 */
-        return write_other_protocol(frame);
+    unsigned frames = matching_frames();
+    struct told measured = *told;
+    if (at == 1 || at == frames - 1 || at == frames + 2) {
+        put_kind(at == 1 ? PARM_CNF : at == frames - 1 ? REPORT : MATCH_CNF, told);
+        return;
     }
+    at = at == 0 ? 0 : at < frames ? at - 1 : at - 2;
+    memcpy(measured.station, us, 6);
+    put_matching(4 <= at && at < frames - 2 ? &measured : told, at);
 }
 
-#define OWN_FRAMES 26u
-#define OWN_FRAMES_SAE 22u
-
-/* The frame of our car's matching at a place from 0 to 25, all of them accepted. */
-static size_t write_own(uint8_t *frame, unsigned at)
+/* Our car and all neighbours begin a matching, each with its own station. */
+static void begin(void)
 {
-    if (at == 0) {
-        fill(our_car.run, 8);
-        return write_parm_req(frame, &our_car);
+    unsigned place;
+    tell(&ours, 0, 1, us);
+    for (place = 0; place < NEIGHBOURS; place++) {
+        uint8_t other[6] = {2, 0, 0, 0, 2, (uint8_t)place};
+        tell(&neighbours[place], 1, place, other);
+        heard[place] = 0;
     }
-    if (at < 4) {
-        return write_start(frame, &our_car);
-    }
-    if (at < 24) {
-        return at % 2 == 0 ? write_sound(frame, &our_car, (at - 4) / 2)
-                           : write_profile(frame, our_modem, us, our_car.address, below(256));
-    }
-    return at == 24 ? write_rsp(frame, &our_car, us) : write_match_req(frame, &our_car, us);
+    asking = 0;
 }
 
-/* The same in SAE, at a place from 0 to 21; our modem has the groups of ISO. */
-static size_t write_own_sae(uint8_t *frame, unsigned at)
+/* The next frame of a neighbour: first the request of each and its answer. */
+static void put_neighbour(void)
 {
-    uint8_t any[SAE_IDS];
-    if (at == 0) {
-        fill(our_car.run, 8);
-        return write_parm_req(frame, &our_car);
+    unsigned place = asking < 2 * NEIGHBOURS ? asking++ / 2 : (unsigned)below(NEIGHBOURS);
+    put_heard(&neighbours[place], heard[place]);
+    heard[place] = (heard[place] + 1) % (matching_frames() + 3);
+}
+
+/* The next frame of our car's matching; behind its last, the next plug-in. */
+static void put_own(void)
+{
+    static unsigned own;
+    put_matching(&ours, own);
+    own = (own + 1) % matching_frames();
+    if (own == 0) {
+        put(0);
+        begin();
     }
-    if (at < 4) {
-        return write_sae_start(frame, &our_car, first_try);
-    }
-    fill(any, SAE_IDS);
-    if (at < 20) {
-        return at % 2 == 0 ? write_sae_sound(frame, &our_car, (at - 4) / 2, any)
-                           : write_profile(frame, our_modem, us, our_car.address, below(256));
-    }
-    return at == 20 ? write_sae_rsp(frame, &our_car, us, any) : write_sae_match_req(frame, &our_car, us, any);
 }
 
 int main(int count, char **arguments)
 {
-    uint8_t frame[FRAME_MOST];
-    int sae = count > 3 && strcmp(arguments[3], "sae") == 0;
-    unsigned long frames = count > 1 ? strtoul(arguments[1], NULL, 10) : 1000000, at;
-    unsigned own = 0, place = 0;
-    random_state = count > 2 ? strtoull(arguments[2], NULL, 10) : 1;
+    int among_neighbours = count > 1 && strcmp(arguments[1], "neighbours") == 0;
+    unsigned long frames = count > 2 ? strtoul(arguments[2], NULL, 10) : 1000000, at;
+    size_t place = 0;
+    random_state = count > 3 ? strtoull(arguments[3], NULL, 10) : 1;
+    edition = count > 4 && strcmp(arguments[4], "sae") == 0 ? LAHZAVAR_SAE : LAHZAVAR_ISO;
+    begin();
     for (at = 0; at < frames; at++) {
         place = at % 10 == 0 ? below(10) : place;
-        if (at % 10 != place) {
-            put(frame, sae ? write_foreign_sae(frame) : write_foreign(frame));
-            continue;
-        }
-        put(frame, sae ? write_own_sae(frame, own) : write_own(frame, own));
-        own = (own + 1) % (sae ? OWN_FRAMES_SAE : OWN_FRAMES);
-        if (own == 0) {
-            put(frame, 0);
+        if (at % 10 == place) {
+            put_own();
+        } else if (among_neighbours) {
+            put_neighbour();
+        } else {
+            put_foreign();
         }
     }
     return fflush(stdout) == 0 ? 0 : 1;

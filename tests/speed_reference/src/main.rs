@@ -25,7 +25,7 @@ fn plugged(edition: Edition) -> Station {
     let mut nmk = [0; 16];
     nmk[0] = 0x4B;
     let (nid, nmk) = (Nid([1, 2, 3, 4, 5, 6, 7]), Nmk(nmk));
-    let config = Config { station: US, modem: MODEM, nid, nmk, exempt: false, edition };
+    let config = Config { station: US, modem: MODEM, nid, nmk, exempt: false, edition, carriers: 1155 };
     let (mut station, _) = Station::configure(config);
     let _ = station.change_pilot(Pilot::B, 0);
     station
@@ -70,7 +70,7 @@ pub fn run_frames(station: &mut Station, input: &[u8]) {
 
 /// How often each refusal comes, and a sum that the library must give too.
 fn check(edition: Edition, input: &[u8]) {
-    let (mut sum, mut counts) = (0xCBF2_9CE4_8422_2325_u64, [0; 24]);
+    let (mut sum, mut counts) = (0xCBF2_9CE4_8422_2325_u64, [0; 25]);
     let mut add = |value: u64| sum = (sum ^ value).wrapping_mul(0x100_0000_01B3);
     each_frame(&mut plugged(edition), input, |answer, out| {
         let refusal = answer.map_or_else(|refusal| refusal.number(), |_| 0);
