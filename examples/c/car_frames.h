@@ -8,11 +8,13 @@
 
 #define FRAME_HEAD 19u
 #define FRAME_LEAST 60u
-#define FRAME_MOST LAHZAVAR_REPORT_OCTETS
+#define FRAME_MOST LAHZAVAR_MAP_OCTETS
 
 enum message_type {
     CM_SET_KEY_REQ = 0x6008,
     CM_SET_KEY_CNF = 0x6009,
+    CM_AMP_MAP_REQ = 0x601C,
+    CM_AMP_MAP_CNF = 0x601D,
     CM_SLAC_PARM_REQ = 0x6064,
     CM_SLAC_PARM_CNF = 0x6065,
     CM_START_ATTEN_CHAR_IND = 0x606A,
@@ -128,6 +130,20 @@ static inline size_t write_match_req(uint8_t *frame, const struct car *car, cons
     memcpy(frame + FRAME_HEAD + 21, car->address, 6);
     memcpy(frame + FRAME_HEAD + 44, station, 6);
     memcpy(frame + FRAME_HEAD + 50, car->run, 8);
+    return length;
+}
+
+/* The amplitude map of a car, the same value for each of so many carriers. */
+static inline size_t write_map_req(uint8_t *frame, const struct car *car, const uint8_t *station, unsigned carriers,
+                                   unsigned value)
+{
+    size_t length = write_head(frame, station, car->address, CM_AMP_MAP_REQ, 2 + (carriers + 1) / 2);
+    frame[FRAME_HEAD] = (uint8_t)(carriers & 0xFF);
+    frame[FRAME_HEAD + 1] = (uint8_t)(carriers >> 8);
+    memset(frame + FRAME_HEAD + 2, (int)(value | value << 4), carriers / 2);
+    if (carriers % 2 != 0) {
+        frame[FRAME_HEAD + 2 + carriers / 2] = (uint8_t)value;
+    }
     return length;
 }
 

@@ -243,7 +243,7 @@ int main(void)
         return 1;
     }
     (void)lahzavar_station_configure(&station, lahzavar_address(station_address), lahzavar_address(station_modem),
-                                     lahzavar_nid(network_id), network_key, false, LAHZAVAR_ISO);
+                                     lahzavar_nid(network_id), network_key, false, LAHZAVAR_ISO, LAHZAVAR_CARRIERS);
     (void)lahzavar_station_pilot(&station, LAHZAVAR_PILOT_A, now);
     if (lahzavar_car_configure(&car, lahzavar_address(our_address), REFERENCE).refusal != LAHZAVAR_ACCEPTED) {
         return 1;

@@ -15,6 +15,7 @@
 #define REFUSALS (LAHZAVAR_LAST_REFUSAL + 2)
 #define VALIDATION_NOT_REQUIRED false /* true at an outlet that stands alone, and at an SAE site */
 #define EDITION LAHZAVAR_ISO          /* LAHZAVAR_SAE where the cars are those of SAE J2931/4; the simulated ones are not */
+#define CARRIERS LAHZAVAR_CARRIERS    /* of our modem, as its manual says; amplitude_map.c has what they are for */
 
 _Static_assert(ATOMIC_INT_LOCK_FREE == 2, "an interrupt can't wait for a lock");
 
@@ -249,9 +250,9 @@ static struct lahzavar_answer start(uint32_t reading)
 {
     uint64_t address = lahzavar_address(our_address), modem = lahzavar_address(our_modem), nid = lahzavar_nid(network_id);
     struct lahzavar_answer answer =
-        lahzavar_station_configure(&station, address, modem, nid, network_key, VALIDATION_NOT_REQUIRED, EDITION);
+        lahzavar_station_configure(&station, address, modem, nid, network_key, VALIDATION_NOT_REQUIRED, EDITION, CARRIERS);
     session_log_begin(&session, session_octets, sizeof session_octets, address, modem, nid, network_key,
-                      VALIDATION_NOT_REQUIRED, EDITION);
+                      VALIDATION_NOT_REQUIRED, EDITION, CARRIERS);
     obey(answer);
     handle_pilot(pilot_now, reading);
     return answer;

@@ -3,7 +3,7 @@
  * answered. The program `replay` runs a station by it and names the first answer that differs. docs/INTEGRATION.md, "The log
  * of a session", says when to begin one and what to send. A driver takes this file as it is, and calls
  *
- *     session_log_begin(&log, room, sizeof room, address, modem, nid, nmk, validation_not_required, edition);
+ *     session_log_begin(&log, room, sizeof room, address, modem, nid, nmk, validation_not_required, edition, carriers);
  *     answer = lahzavar_station_frame(&station, frame, length, out, sizeof out);
  *     session_log_frame(&log, frame, length, answer, out);        -- at once, since the next call writes over `out`
  *     length = session_log_end(&log);                             -- the log is room[0] to room[length - 1]
@@ -22,7 +22,7 @@
 #define SESSION_LOG_MOST 65536u
 /* The octets before the first event: a head of five numbers, two addresses, NID, NMK, and a number for each setting. */
 #define SESSION_LOG_HEAD (5u * 4u)
-#define SESSION_LOG_LEAST (SESSION_LOG_HEAD + 6u + 6u + 7u + 16u + 2u * 4u)
+#define SESSION_LOG_LEAST (SESSION_LOG_HEAD + 6u + 6u + 7u + 16u + 3u * 4u)
 /* The three numbers of an event or of a reply, before its octets. */
 #define SESSION_LOG_ENTRY (3u * 4u)
 
@@ -78,7 +78,7 @@ static inline void session_log_put_back(struct session_log *log, const uint8_t *
  */
 static inline bool session_log_begin(struct session_log *log, uint8_t *octets, size_t room, uint64_t address, uint64_t modem,
                                      uint64_t nid, const uint8_t nmk[16], bool validation_not_required,
-                                     enum lahzavar_edition edition)
+                                     enum lahzavar_edition edition, uint32_t carriers)
 {
     static const struct session_log none = {NULL, 0, 0, 0, 0, false};
     uint8_t *place;
@@ -99,6 +99,7 @@ static inline bool session_log_begin(struct session_log *log, uint8_t *octets, s
     memcpy(place + 19, nmk, 16);
     session_log_number(place + 35, validation_not_required ? 1 : 0);
     session_log_number(place + 39, (uint32_t)edition);
+    session_log_number(place + 43, carriers);
     log->octets = octets;
     log->room = room < SESSION_LOG_MOST ? room : SESSION_LOG_MOST;
     log->front = SESSION_LOG_LEAST;
