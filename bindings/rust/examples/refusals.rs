@@ -3,7 +3,7 @@
 use lahzavar::Refusal;
 
 fn main() {
-    for number in 0..=25 {
+    for number in 0..=26 {
         println!("{number} {}", Refusal::try_from(number).map_or("accepted", Refusal::text));
     }
 }

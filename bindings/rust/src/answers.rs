@@ -68,8 +68,8 @@ impl fmt::Debug for Done<'_> {
 }
 
 /// The octets of the first of the frames that stand here back to back: its type tells them, a
-/// report's group count too. Reports and `CM_VALIDATE.CNF` may stand in one answer, any other frame
-/// is alone in its.
+/// report's group count too. Reports and `CM_VALIDATE.CNF` may stand in one answer, any other frame,
+/// `CM_AMP_MAP.CNF` too, is alone in its.
 fn frame_octets(frames: &[u8]) -> usize {
     let told = match (frames.get(15..17), frames.get(REPORT_HEAD - 1)) {
         (Some([0x6E, 0x60]), Some(groups)) => REPORT_HEAD + usize::from(*groups),

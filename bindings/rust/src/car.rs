@@ -1,7 +1,7 @@
 //! The car.
 
 use crate::answers::{accepted, answer};
-use crate::octets::{halves, number};
+use crate::octets::{self, halves, number};
 use crate::raw::{self, CarWords};
 use crate::{library_fits, Answer, CarState, Key, Refusal, CAR_WORDS};
 use core::fmt;
@@ -177,10 +177,9 @@ impl Car {
         // SAFETY: the array is ours and of the library's length.
         let told = unsafe { raw::lahzavar_key_of_car(&self.words) };
         accepted(told.refusal)?;
-        let [_, _, station @ ..] = told.station.to_be_bytes();
         let [nid @ .., _] = told.nid.to_le_bytes();
         let nmk = u128::from(told.nmk_first) << 64 | u128::from(told.nmk_last);
-        Ok(Key { station, nid, nmk: nmk.to_be_bytes() })
+        Ok(Key { station: octets::address(told.station), nid, nmk: nmk.to_be_bytes() })
     }
 
     /// The state; one that this wrapper does not know counts as Idle.

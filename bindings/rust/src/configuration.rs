@@ -17,10 +17,11 @@ use core::fmt;
 ///     nmk: [0x4B; 16],
 ///     validation_not_required: false,
 ///     edition: Edition::Iso,
+///     carriers: 1155,
 /// };
 /// let shown = format!("{configuration:?}");
 /// assert!(shown.contains("nid: [1, 2, 3, 4, 5, 6, 7], "));
-/// assert!(shown.ends_with("validation_not_required: false, edition: Iso, .. }"));
+/// assert!(shown.ends_with("validation_not_required: false, edition: Iso, carriers: 1155, .. }"));
 /// ```
 #[derive(Clone)]
 pub struct Configuration {
@@ -39,6 +40,10 @@ pub struct Configuration {
     pub validation_not_required: bool,
     /// By which standard the station reads and writes.
     pub edition: Edition,
+    /// The carriers of the station's modem, as its manual says, 1 to [`CARRIERS`](crate::CARRIERS).
+    /// They decide about amplitude maps alone: the matched car's with another number of carriers is
+    /// [`Refusal::OtherCarrierCount`](crate::Refusal::OtherCarrierCount).
+    pub carriers: u32,
 }
 
 impl Drop for Configuration {
@@ -53,7 +58,8 @@ impl fmt::Debug for Configuration {
         let mut shown = f.debug_struct("Configuration");
         shown.field("address", &self.address).field("modem", &self.modem).field("nid", &self.nid);
         shown.field("validation_not_required", &self.validation_not_required);
-        shown.field("edition", &self.edition).finish_non_exhaustive()
+        shown.field("edition", &self.edition).field("carriers", &self.carriers);
+        shown.finish_non_exhaustive()
     }
 }
 
@@ -72,6 +78,7 @@ mod tests {
             nmk: [0x4B; 16],
             validation_not_required: false,
             edition: Edition::Iso,
+            carriers: 1155,
         };
         // SAFETY: octets stay octets.
         let nmk = after_drop(configuration, |dropped| unsafe {

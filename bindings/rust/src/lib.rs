@@ -6,7 +6,9 @@
 //! the modem, clock readings, pilot states, terminate and link up. A car's driver keeps one
 //! [`Car`], starts it, and hands it frames, clock readings, terminate and link up. Every call comes
 //! back, for any octets, any length and any number, with what is to be done or a [`Refusal`]; a
-//! refused call changes neither station, car nor output, and a driver may well ignore it.
+//! refused call changes neither station, car nor output, and a driver may well ignore it. The
+//! functions of [`maps`] read and write amplitude maps, and say how far a map asks to lower the
+//! power of each carrier.
 //!
 //! # The station
 //!
@@ -20,6 +22,7 @@
 //!     nmk: [0x4B; 16],
 //!     validation_not_required: false,
 //!     edition: Edition::Iso,
+//!     carriers: 1155,
 //! })?;
 //! let mut out = [0; LEAST_OUTPUT];
 //!
@@ -107,7 +110,9 @@
 mod answers;
 mod car;
 mod configuration;
+mod inspection;
 mod key;
+pub mod maps;
 mod numbers;
 mod octets;
 mod raw;
@@ -117,6 +122,7 @@ mod station;
 pub use answers::{Answer, Done, Frames};
 pub use car::Car;
 pub use configuration::Configuration;
+pub use inspection::Inspection;
 pub use key::Key;
 pub use numbers::{CarState, Edition, Indication, Pilot, Refusal, State, UnknownNumber};
 pub use spread::Spread;
@@ -129,8 +135,14 @@ pub const GROUPS: usize = 58;
 /// The most octets of a report, `CM_ATTEN_CHAR.IND`, which has 71 and one for each carrier group; in
 /// the ISO edition each one has so many.
 pub const REPORT_OCTETS: usize = REPORT_HEAD + GROUPS;
-/// The octets of one confirmation of a validation, `CM_VALIDATE.CNF`.
+/// The octets of one confirmation: of a validation, `CM_VALIDATE.CNF`, or of an amplitude map,
+/// `CM_AMP_MAP.CNF`.
 pub const CONFIRMATION_OCTETS: usize = 60;
+/// The most carriers of a modem, and of an amplitude map.
+pub const CARRIERS: usize = 1155;
+/// The most octets of a request with an amplitude map, `CM_AMP_MAP.REQ`: 21 and half an octet for
+/// each carrier, 60 at least.
+pub const MAP_OCTETS: usize = 21 + CARRIERS.div_ceil(2);
 /// The least room that [`Station::frame`] and [`Station::tick`] ask for: a longest report to every
 /// car.
 pub const LEAST_OUTPUT: usize = REPORT_OCTETS * RECORDS;
@@ -139,13 +151,13 @@ pub const STATIONS: usize = 10;
 /// The least room that [`Car::start`], [`Car::frame`] and [`Car::tick`] ask for: a
 /// `CM_SLAC_MATCH.REQ`.
 pub const CAR_LEAST_OUTPUT: usize = 85;
-/// The version of the library that this wrapper describes, 0.7.0: 65536 times its first number, 256
+/// The version of the library that this wrapper describes, 0.8.0: 65536 times its first number, 256
 /// times its second, and its third.
-pub const VERSION: u32 = 256 * 7;
+pub const VERSION: u32 = 256 * 8;
 
 /// The octets of a report before its values; the last of them is the group count.
 const REPORT_HEAD: usize = 71;
-const WORDS: usize = 14 + 10 * RECORDS;
+const WORDS: usize = 15 + 10 * RECORDS;
 const SUMS: usize = GROUPS * RECORDS;
 const SPREAD: usize = 2 * GROUPS * RECORDS;
 const CAR_WORDS: usize = 16 + 2 * STATIONS;

@@ -38,13 +38,15 @@ pub enum Refusal {
     TooShort,
     /// 2: no SLAC frame: octets 12-14 or 17-18.
     BadHead,
-    /// 3: none of the eleven messages.
+    /// 3: none of the thirteen messages; to the functions of [`maps`](crate::maps): none of their
+    /// two, or to [`values`](crate::maps::values) no `CM_AMP_MAP.REQ`.
     UnknownType,
     /// 4: longer than its message is written.
     TooLong,
     /// 5: source, destination or the profile's car of the wrong kind.
     BadAddress,
-    /// 6: another octet that is fixed, equal to one before, or limited.
+    /// 6: another octet that is fixed, equal to one before, or limited; for an amplitude map also no
+    /// carriers, more than [`CARRIERS`](crate::CARRIERS), or a value over 15.
     BadOctet,
     /// 7: to another receiver, from another modem, or from ourselves.
     NotForUs,
@@ -55,7 +57,8 @@ pub enum Refusal {
     /// 10: a new car while every record is held.
     RecordsFull,
     /// 11: this car holds no record, or another run; at a car: another run or station; to the query:
-    /// no record, or one that counts no profile.
+    /// no record, or one that counts no profile; for an amplitude map: another car than the matched
+    /// one.
     NoRecord,
     /// 12: the car's record is in another phase.
     WrongPhase,
@@ -64,11 +67,13 @@ pub enum Refusal {
     /// 14: more than 60,000 ms since the last reading.
     TickGap,
     /// 15: less room than [`LEAST_OUTPUT`](crate::LEAST_OUTPUT), or
-    /// [`CAR_LEAST_OUTPUT`](crate::CAR_LEAST_OUTPUT).
+    /// [`CAR_LEAST_OUTPUT`](crate::CAR_LEAST_OUTPUT); for an amplitude map: than its frame takes, or
+    /// than it has carriers.
     OutputTooShort,
-    /// 16: the station or car was badly configured, or wiped.
+    /// 16: the station or car was badly configured, or wiped; to
+    /// [`maps::reduce`](crate::maps::reduce): a level outside -128 to 0.
     BadConfiguration,
-    /// 17: a message that only a car receives.
+    /// 17: a message that only a car receives; a `CM_AMP_MAP.CNF`, since a station never asks.
     OnlyForCars,
     /// 18: a report, while those of [`STATIONS`](crate::STATIONS) other stations are kept.
     ReportsFull,
@@ -82,44 +87,57 @@ pub enum Refusal {
     OtherTry,
     /// 23: a `CM_ATTEN_PROFILE.IND` with another group count than the record's; SAE alone.
     OtherGroupCount,
+    /// 24: a `CM_AMP_MAP.REQ` with another number of carriers than ours; to
+    /// [`maps::reduce`](crate::maps::reduce): not as many levels as values.
+    OtherCarrierCount,
     /// A number of a later library, which this wrapper does not know.
     Other(u32),
 }
 
 /// Every refusal that this wrapper knows, from number 1 on, with its sentence.
-const REFUSALS: [(Refusal, &str); 23] = [
+const REFUSALS: [(Refusal, &str); 24] = [
     (Refusal::TooShort, "the frame ends before its payload does"),
     (
         Refusal::BadHead,
         "the frame is no HomePlug management message of version 1, or a fragment of one",
     ),
-    (Refusal::UnknownType, "the message is none of those of SLAC matching"),
+    (Refusal::UnknownType, "the message is none of those that this call reads"),
     (Refusal::TooLong, "the frame is longer than its message; is its check sequence still there?"),
     (
         Refusal::BadAddress,
         "the source, the destination or the profile's car is an address of the wrong kind",
     ),
-    (Refusal::BadOctet, "an octet of the payload is not what the standard fixes"),
+    (
+        Refusal::BadOctet,
+        "an octet of the payload, or a map's count or value, is not what the standard fixes",
+    ),
     (Refusal::NotForUs, "the frame is for another receiver, from another modem, or from ourselves"),
     (Refusal::WrongState, "the state takes no such event"),
     (Refusal::AdmissionClosed, "a new car asks after the end of admission"),
     (Refusal::RecordsFull, "a new car asks while other cars hold every record"),
     (
         Refusal::NoRecord,
-        "there is no such record, run or chosen station, or no profile is counted yet",
+        "there is no such record, run, chosen station or matched car, or no profile is counted yet",
     ),
     (Refusal::WrongPhase, "the car's record is in another phase"),
     (Refusal::BadSoundCount, "the sound's count is too high, or was heard already"),
     (Refusal::TickGap, "the clock is more than 60 seconds past the last reading that was taken"),
     (Refusal::OutputTooShort, "the output is too short"),
-    (Refusal::BadConfiguration, "the configuration is bad, or there is none"),
-    (Refusal::OnlyForCars, "only a car receives this message"),
+    (
+        Refusal::BadConfiguration,
+        "the configuration is bad or there is none, or a level is outside -128 to 0 dBm/Hz",
+    ),
+    (Refusal::OnlyForCars, "a station never takes this message"),
     (Refusal::ReportsFull, "the reports of as many other stations are kept as there is room for"),
     (Refusal::OnlyForStations, "only a station receives this message"),
     (Refusal::NoSounds, "the report tells of no sounds"),
     (Refusal::EmptyRun, "the request's run is empty, eight zero octets"),
     (Refusal::OtherTry, "the start has the values of the other try"),
     (Refusal::OtherGroupCount, "the profile has another group count than the car's record"),
+    (
+        Refusal::OtherCarrierCount,
+        "the map has another number of carriers than the station, or than there are levels",
+    ),
 ];
 
 impl Refusal {

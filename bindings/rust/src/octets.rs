@@ -7,6 +7,12 @@ pub fn number(octets: &[u8]) -> u64 {
     octets.iter().fold(0, |number, octet| number << 8 | u64::from(*octet))
 }
 
+/// The address that a number stands for: its last six octets, the first one most significant.
+pub fn address(number: u64) -> [u8; 6] {
+    let [_, _, address @ ..] = number.to_be_bytes();
+    address
+}
+
 /// The numbers of the first and the last eight octets.
 pub fn halves(octets: &[u8; 16]) -> (u64, u64) {
     (number(&octets[..8]), number(&octets[8..]))

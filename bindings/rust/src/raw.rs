@@ -18,6 +18,33 @@ pub struct Heard {
     pub sounds: u32,
 }
 
+/// A refusal or 0, the state, and the car in Joining and Matched, else 0.
+#[repr(C)]
+pub struct Inspected {
+    pub refusal: u32,
+    pub state: u32,
+    pub car: u64,
+}
+
+/// A refusal or 0, a message's type, the frame's destination and source, a request's carriers and a
+/// confirmation's result.
+#[repr(C)]
+pub struct MapRead {
+    pub refusal: u32,
+    pub kind: u32,
+    pub receiver: u64,
+    pub sender: u64,
+    pub carriers: u32,
+    pub result: u32,
+}
+
+/// A refusal or 0, and how many places were filled.
+#[repr(C)]
+pub struct Counted {
+    pub refusal: u32,
+    pub count: u32,
+}
+
 /// A refusal or 0, the station's address, its NID, and the first and last eight octets of its NMK.
 #[repr(C)]
 pub struct KeyNumbers {
@@ -46,6 +73,7 @@ extern "C" {
         nmk_last: u64,
         exempt: u32,
         edition: u32,
+        carriers: u32,
     ) -> Answered;
     pub fn lahzavar_frame(
         words: &mut Words,
@@ -83,7 +111,7 @@ extern "C" {
         least: &mut Values,
         greatest: &mut Values,
     ) -> Heard;
-    pub fn lahzavar_state(words: &Words) -> u32;
+    pub fn lahzavar_inspect(words: &Words) -> Inspected;
     pub fn lahzavar_records_held(words: &Words) -> u32;
     pub fn lahzavar_version() -> u32;
     pub fn lahzavar_words() -> u32;
@@ -120,4 +148,34 @@ extern "C" {
     pub fn lahzavar_wipe_car(words: &mut CarWords);
     pub fn lahzavar_words_of_car() -> u32;
     pub fn lahzavar_least_output_of_car() -> u32;
+    pub fn lahzavar_read_map(octets: *const u8, length: usize) -> MapRead;
+    pub fn lahzavar_values_of_map(
+        octets: *const u8,
+        length: usize,
+        values: *mut u8,
+        room: usize,
+    ) -> Counted;
+    pub fn lahzavar_request_map(
+        receiver: u64,
+        sender: u64,
+        values: *const u8,
+        carriers: usize,
+        out: *mut u8,
+        room: usize,
+    ) -> Counted;
+    pub fn lahzavar_confirm_map(
+        receiver: u64,
+        sender: u64,
+        success: u32,
+        out: *mut u8,
+        room: usize,
+    ) -> Counted;
+    pub fn lahzavar_reduce_map(
+        values: *const u8,
+        carriers: usize,
+        levels: *const i16,
+        level_count: usize,
+        reductions: *mut u8,
+        room: usize,
+    ) -> Counted;
 }

@@ -1,9 +1,9 @@
 //! The station.
 
 use crate::answers::{accepted, answer};
-use crate::octets::{halves, number};
+use crate::octets::{address, halves, number};
 use crate::raw::{self, Spreads, Sums, Words};
-use crate::{library_fits, Answer, Configuration, Pilot, Refusal, Spread, State};
+use crate::{library_fits, Answer, Configuration, Inspection, Pilot, Refusal, Spread, State};
 use crate::{GROUPS, SPREAD, SUMS, WORDS};
 use core::fmt;
 
@@ -20,8 +20,8 @@ impl Station {
     ///
     /// # Errors
     ///
-    /// [`Refusal::BadConfiguration`] unless both addresses are unicast and differ and the NID is
-    /// below 2^54.
+    /// [`Refusal::BadConfiguration`] unless both addresses are unicast and differ, the NID is below
+    /// 2^54 and the carriers are 1 to [`CARRIERS`](crate::CARRIERS).
     ///
     /// # Panics
     ///
@@ -37,6 +37,7 @@ impl Station {
     ///     nmk: [0; 16],
     ///     validation_not_required: false,
     ///     edition: Edition::Iso,
+    ///     carriers: 1155,
     /// };
     /// assert!(Station::new(&good).is_ok());
     /// let bad = Configuration { modem: good.address, ..good };
@@ -57,7 +58,7 @@ impl Station {
     /// Those of [`Station::new`]; the station then answers [`Refusal::BadConfiguration`] to
     /// everything.
     pub fn configure(&mut self, configuration: &Configuration) -> Result<(), Refusal> {
-        let Configuration { address, modem, nid, nmk, validation_not_required, edition } =
+        let Configuration { address, modem, nid, nmk, validation_not_required, edition, carriers } =
             configuration;
         let (address, modem) = (number(address), number(modem));
         let nid = nid.iter().rev().fold(0, |number, octet| number << 8 | u64::from(*octet));
@@ -67,7 +68,7 @@ impl Station {
         // SAFETY: the arrays are ours and of the library's lengths.
         let answered = unsafe {
             raw::lahzavar_configure(
-                words, sums, spread, address, modem, nid, first, last, exempt, edition,
+                words, sums, spread, address, modem, nid, first, last, exempt, edition, *carriers,
             )
         };
         accepted(answered.refusal)
@@ -85,6 +86,7 @@ impl Station {
     /// #     nmk: [0; 16],
     /// #     validation_not_required: false,
     /// #     edition: lahzavar::Edition::Iso,
+    /// #     carriers: 1155,
     /// # };
     /// let mut station = Station::new(&configuration)?;
     /// station.wipe();
@@ -98,9 +100,13 @@ impl Station {
 
     /// A frame from the modem, from its destination address on and without its check sequence.
     ///
+    /// A `CM_AMP_MAP.REQ` of the matched car with as many carriers as ours is answered by a
+    /// `CM_AMP_MAP.CNF` for success, and changes nothing; [`maps::values`](crate::maps::values) takes
+    /// its values out of the same frame.
+    ///
     /// # Errors
     ///
-    /// Any refusal from 1 to 17 but [`Refusal::TickGap`], or from 21 to 23; station and output are as
+    /// Any refusal from 1 to 17 but [`Refusal::TickGap`], or from 21 to 24; station and output are as
     /// they were.
     pub fn frame<'a>(&mut self, octets: &[u8], out: &'a mut [u8]) -> Answer<'a> {
         let Station { words, sums, spread } = self;
@@ -143,6 +149,7 @@ impl Station {
     /// #     nmk: [0; 16],
     /// #     validation_not_required: false,
     /// #     edition: lahzavar::Edition::Iso,
+    /// #     carriers: 1155,
     /// # };
     /// let mut station = Station::new(&configuration)?;
     /// let mut out = [0; LEAST_OUTPUT];
@@ -229,6 +236,7 @@ impl Station {
     /// #     nmk: [0; 16],
     /// #     validation_not_required: false,
     /// #     edition: lahzavar::Edition::Iso,
+    /// #     carriers: 1155,
     /// # };
     ///
     /// let station = Station::new(&configuration)?;
@@ -246,12 +254,43 @@ impl Station {
         Ok(Spread { sounds: heard.sounds, least, greatest })
     }
 
-    /// The state; one that this wrapper does not know counts as Unmatched.
+    /// The inspection: the state, and in Joining and Matched the car. It changes nothing.
+    ///
+    /// # Errors
+    ///
+    /// [`Refusal::BadConfiguration`] after a wipe.
+    ///
+    /// ```
+    /// use lahzavar::{Configuration, Inspection, Pilot, Refusal, State, Station};
+    /// # let configuration = Configuration {
+    /// #     address: [2, 0, 0, 0, 0, 0xAA],
+    /// #     modem: [2, 0, 0, 0, 0, 0xBB],
+    /// #     nid: [0; 7],
+    /// #     nmk: [0; 16],
+    /// #     validation_not_required: false,
+    /// #     edition: lahzavar::Edition::Iso,
+    /// #     carriers: 1155,
+    /// # };
+    /// let mut station = Station::new(&configuration)?;
+    /// assert!(station.pilot(Pilot::B, 1000).is_ok());
+    /// assert_eq!(station.inspect(), Ok(Inspection { state: State::Matching, car: None }));
+    /// station.wipe();
+    /// assert_eq!(station.inspect(), Err(Refusal::BadConfiguration));
+    /// # Ok::<(), Refusal>(())
+    /// ```
+    pub fn inspect(&self) -> Result<Inspection, Refusal> {
+        // SAFETY: the array is ours and of the library's length.
+        let told = unsafe { raw::lahzavar_inspect(&self.words) };
+        accepted(told.refusal)?;
+        let state = State::try_from(told.state).unwrap_or(State::Unmatched);
+        let has_car = matches!(state, State::Joining | State::Matched);
+        Ok(Inspection { state, car: has_car.then(|| address(told.car)) })
+    }
+
+    /// The state alone; Unmatched where the inspection is refused.
     #[must_use]
     pub fn state(&self) -> State {
-        // SAFETY: the array is ours and of the library's length.
-        let number = unsafe { raw::lahzavar_state(&self.words) };
-        State::try_from(number).unwrap_or(State::Unmatched)
+        self.inspect().map_or(State::Unmatched, |told| told.state)
     }
 
     /// How many records cars hold.
@@ -293,6 +332,7 @@ mod tests {
             nmk: [0x4B; 16],
             validation_not_required: false,
             edition: Edition::Iso,
+            carriers: 1155,
         };
         let mut station = Station::new(&configuration).unwrap();
         assert!(station.pilot(Pilot::B, 5).is_ok());

@@ -25,6 +25,7 @@ fn plugged_station() -> Station {
         nmk: NMK,
         validation_not_required: false,
         edition: Edition::Iso,
+        carriers: 1155,
     };
     let mut station = Station::new(&configuration).unwrap();
     assert!(station.pilot(Pilot::B, START).is_ok());

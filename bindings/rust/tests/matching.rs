@@ -4,8 +4,9 @@
 mod frames;
 
 use frames::{Address, Car};
-use lahzavar::{Answer, Configuration, Edition, Indication, Pilot, Refusal, Spread, State};
-use lahzavar::{Station, CONFIRMATION_OCTETS, GROUPS, LEAST_OUTPUT, RECORDS, REPORT_OCTETS};
+use lahzavar::{maps, REPORT_OCTETS};
+use lahzavar::{Answer, Configuration, Edition, Indication, Inspection, Pilot, Refusal, Spread};
+use lahzavar::{State, Station, CARRIERS, CONFIRMATION_OCTETS, GROUPS, LEAST_OUTPUT, RECORDS};
 
 const STATION: Address = [2, 0, 0, 0, 0, 0xAA];
 const MODEM: Address = [2, 0, 0, 0, 0, 0xBB];
@@ -18,6 +19,7 @@ fn configuration() -> Configuration {
         nmk: [0x4B; 16],
         validation_not_required: false,
         edition: Edition::Iso,
+        carriers: 6,
     }
 }
 
@@ -77,6 +79,22 @@ impl Bench {
         assert!(nothing(self.hear(&car.rsp(STATION))));
     }
 
+    /// A car that is matched.
+    fn matched(configuration: &Configuration, car: &Car) -> Bench {
+        let mut bench = Bench::plugged_with(configuration);
+        bench.awaited(car);
+        assert_eq!(bench.replies(&car.match_req(STATION)).len(), 1);
+        assert!(bench.station.link_up().is_ok());
+        bench.out.fill(0xEE);
+        bench
+    }
+
+    /// What the inspection tells: the state and the car.
+    fn inspected(&self, state: State, car: Option<Address>) -> bool {
+        let told = self.station.inspect();
+        told == Ok(Inspection { state, car }) && self.station.state() == state
+    }
+
     /// The toggles and the result that a first request is answered with.
     fn asked_to_validate(&mut self, car: &Car) -> (u8, u8) {
         let replies = self.replies(&car.validate_req(STATION, 0));
@@ -120,6 +138,82 @@ fn a_whole_matching() {
     assert_eq!(linked.indication, Some(Indication::LinkEstablished));
     assert_eq!(bench.station.state(), State::Matched);
     assert!(nothing(bench.station.terminate()));
+}
+
+#[test]
+fn the_inspection_in_each_state() {
+    let (mut bench, car) = (Bench::plugged(), car(1));
+    let joined = Some(car.address);
+    assert!(bench.inspected(State::Matching, None));
+    bench.awaited(&car);
+    assert!(bench.inspected(State::Matching, None));
+    assert_eq!(bench.replies(&car.match_req(STATION)).len(), 1);
+    assert!(bench.inspected(State::Joining, joined));
+    assert!(bench.station.link_up().is_ok());
+    for pilot in [Pilot::B, Pilot::C, Pilot::D, Pilot::B] {
+        assert!(nothing(bench.station.pilot(pilot, 0)));
+        assert!(bench.inspected(State::Matched, joined));
+    }
+    assert!(nothing(bench.station.pilot(Pilot::A, 0)));
+    assert!(bench.inspected(State::Unmatched, None));
+    let mut bench = Bench::matched(&configuration(), &car);
+    assert!(nothing(bench.station.terminate()));
+    assert!(bench.inspected(State::Unmatched, None));
+}
+
+/// The confirmation of an amplitude map, for success.
+fn confirmation_of(car: &Car) -> Vec<u8> {
+    let mut out = [0; CONFIRMATION_OCTETS];
+    maps::confirm(car.address, STATION, true, &mut out).unwrap().to_vec()
+}
+
+#[test]
+fn the_matched_car_has_its_map_confirmed() {
+    let car = car(1);
+    for carriers in [1, 2, 6, 1154, CARRIERS] {
+        let number = u32::try_from(carriers).unwrap();
+        let configured = Configuration { carriers: number, ..configuration() };
+        let mut bench = Bench::matched(&configured, &car);
+        let values: Vec<u8> = (0..16).cycle().take(carriers).collect();
+        let request = car.map_req(STATION, &values);
+        for _ in 0..2 {
+            let done = bench.hear(&request).unwrap();
+            assert_eq!((done.frames().len(), done.indication), (1, None));
+            assert_eq!(done.octets(), confirmation_of(&car));
+            assert_eq!(done.octets().len(), 60);
+        }
+        assert_eq!(bench.out[60..], [0xEE; LEAST_OUTPUT - 60]);
+        assert!(bench.inspected(State::Matched, Some(car.address)));
+        assert_eq!(maps::values(&request, &mut [0; CARRIERS]), Ok(&values[..]));
+    }
+}
+
+#[test]
+fn other_maps_are_refused() {
+    let (ours, other) = (car(1), car(2));
+    let map = ours.map_req(STATION, &[3; 6]);
+    let mut bench = Bench::plugged();
+    assert_eq!(bench.hear(&map), Err(Refusal::WrongState));
+    bench.awaited(&ours);
+    assert_eq!(bench.hear(&map), Err(Refusal::WrongState));
+    assert_eq!(bench.replies(&ours.match_req(STATION)).len(), 1);
+    assert_eq!(bench.hear(&map), Err(Refusal::WrongState));
+    let mut bench = Bench::matched(&configuration(), &ours);
+    for carriers in [1, 5, 7, CARRIERS] {
+        let map = ours.map_req(STATION, &vec![3; carriers]);
+        assert_eq!(bench.hear(&map), Err(Refusal::OtherCarrierCount));
+        let map = other.map_req(STATION, &vec![3; carriers]);
+        assert_eq!(bench.hear(&map), Err(Refusal::NoRecord));
+    }
+    assert_eq!(bench.hear(&other.map_req(STATION, &[3; 6])), Err(Refusal::NoRecord));
+    assert_eq!(bench.hear(&ours.map_req(MODEM, &[3; 6])), Err(Refusal::NotForUs));
+    assert_eq!(bench.hear(&ours.map_req(STATION, &[])), Err(Refusal::BadOctet));
+    assert_eq!(bench.hear(&confirmation_of(&ours)), Err(Refusal::OnlyForCars));
+    assert_eq!(bench.hear(&ours.parm_req()), Err(Refusal::WrongState));
+    assert_eq!(bench.out, [0xEE; LEAST_OUTPUT]);
+    assert_eq!(bench.hear(&map).unwrap().octets(), confirmation_of(&ours));
+    assert!(nothing(bench.station.terminate()));
+    assert_eq!(bench.hear(&map), Err(Refusal::WrongState));
 }
 
 /// What the query gives where every group has the same values.
@@ -322,8 +416,10 @@ fn bad_configurations() {
     let group = Configuration { address: [1, 0, 0, 0, 0, 0], ..good.clone() };
     let nid = Configuration { nid: [0, 0, 0, 0, 0, 0, 0x40], ..good.clone() };
     let same = Configuration { modem: STATION, ..good.clone() };
-    let exempt = Configuration { modem: STATION, validation_not_required: true, ..good };
-    for bad in [group, nid, same, exempt] {
+    let exempt = Configuration { modem: STATION, validation_not_required: true, ..good.clone() };
+    let [none, more, many] =
+        [0, 1156, u32::MAX].map(|carriers| Configuration { carriers, ..good.clone() });
+    for bad in [group, nid, same, exempt, none, more, many] {
         assert_eq!(Station::new(&bad).err(), Some(Refusal::BadConfiguration));
         let mut bench = Bench::plugged();
         assert_eq!(bench.station.configure(&bad), Err(Refusal::BadConfiguration));
@@ -342,6 +438,7 @@ fn answers_16_to_everything(bench: &mut Bench) {
     assert_eq!(bench.station.terminate(), Err(bad));
     assert_eq!(bench.station.link_up(), Err(bad));
     assert_eq!(bench.station.query(car(1).address), Err(bad));
+    assert_eq!(bench.station.inspect(), Err(bad));
     assert_eq!((bench.station.state(), bench.station.records_held()), (State::Unmatched, 0));
     assert_eq!(bench.out, [0xEE; LEAST_OUTPUT]);
 }

@@ -30,19 +30,19 @@ fn indications_states_pilots_and_editions() {
 #[test]
 fn every_refusal_has_its_number() {
     assert_eq!(Refusal::try_from(0), Err(UnknownNumber(0)));
-    for number in (1..=24).chain([u32::MAX]) {
+    for number in (1..=25).chain([u32::MAX]) {
         let refusal = Refusal::try_from(number).unwrap();
         assert_eq!((refusal.number(), u32::from(refusal)), (number, number));
-        assert_eq!(matches!(refusal, Refusal::Other(_)), number > 23);
+        assert_eq!(matches!(refusal, Refusal::Other(_)), number > 24);
     }
 }
 
 #[test]
 fn every_refusal_has_its_sentence() {
     let texts: HashSet<&str> =
-        (1..=24).map(|number| Refusal::try_from(number).unwrap().text()).collect();
-    assert_eq!(texts.len(), 24);
-    assert_eq!(Refusal::Other(24).text(), Refusal::Other(99).text());
+        (1..=25).map(|number| Refusal::try_from(number).unwrap().text()).collect();
+    assert_eq!(texts.len(), 25);
+    assert_eq!(Refusal::Other(25).text(), Refusal::Other(99).text());
     assert_eq!(
         Refusal::NotForUs.to_string(),
         "refused with 7: the frame is for another receiver, from another modem, or from ourselves"

@@ -36,6 +36,7 @@ impl Bench {
             nmk: [0x4B; 16],
             validation_not_required: false,
             edition,
+            carriers: 1155,
         })
         .unwrap();
         assert!(nothing(station.pilot(Pilot::B, 0)));

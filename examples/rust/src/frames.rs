@@ -11,6 +11,8 @@ pub const ATTEN_CHAR_IND: u16 = 0x606E;
 pub const SOUND_IND: u16 = 0x6076;
 pub const VALIDATE_CNF: u16 = 0x6079;
 pub const MATCH_CNF: u16 = 0x607D;
+const MAP_REQ: u16 = 0x601C;
+const MAP_CNF: u16 = 0x601D;
 
 pub const BROADCAST: Address = [0xFF; 6];
 const HEAD: usize = 19;
@@ -51,6 +53,11 @@ pub fn profile(modem: Address, station: Address, car: Address, value: u8) -> Vec
 pub fn profile_of(modem: Address, station: Address, car: Address, values: &[u8]) -> Vec<u8> {
     let [count, ..] = values.len().to_le_bytes();
     frame(station, modem, 0x6086, &[&car, &[count, 0], values])
+}
+
+/// What a station answers to an amplitude map: 0 for success, 1 for failure.
+pub fn map_cnf(car: Address, station: Address, result: u8) -> Vec<u8> {
+    frame(car, station, MAP_CNF, &[&[result]])
 }
 
 /// The group values of a report, `CM_ATTEN_CHAR.IND`, of 58 groups; none of any other frame.
@@ -95,5 +102,13 @@ impl Car {
         let ids: [&[u8]; 4] = [&[0; 17], &self.address, &[0; 17], &station];
         let payload = [&[0, 0, 0x3E, 0][..], &ids.concat(), &self.run, &[0; 8]];
         frame(station, self.address, 0x607C, &payload)
+    }
+
+    /// The amplitude map of a car, with a value for each carrier.
+    pub fn map_req(&self, station: Address, values: &[u8]) -> Vec<u8> {
+        let [low, high, ..] = values.len().to_le_bytes();
+        let pair = |pair: &[u8]| pair.iter().rev().fold(0, |octet, value| octet << 4 | value);
+        let octets: Vec<u8> = values.chunks(2).map(pair).collect();
+        frame(station, self.address, MAP_REQ, &[&[low, high], &octets])
     }
 }

@@ -33,6 +33,7 @@ impl Line {
             nmk: NMK,
             validation_not_required: false,
             edition: Edition::Iso,
+            carriers: 1155,
         })?;
         Ok(Line { station, clock: PLUG_IN, events: VecDeque::new(), seed: 1 })
     }

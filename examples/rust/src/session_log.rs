@@ -26,9 +26,9 @@ impl SessionLog {
     /// Begins a log with what [`lahzavar::Station::new`] is given: at the same time, so that no event
     /// is missing.
     pub fn new(configuration: &Configuration) -> SessionLog {
-        let Configuration { address, modem, nid, nmk, validation_not_required, edition } =
+        let Configuration { address, modem, nid, nmk, validation_not_required, edition, carriers } =
             configuration;
-        let settings = [u32::from(*validation_not_required), u32::from(*edition)];
+        let settings = [u32::from(*validation_not_required), u32::from(*edition), *carriers];
         let settings = settings.map(u32::to_le_bytes);
         SessionLog {
             configuration: [&address[..], modem, nid, nmk, &settings.concat()].concat(),
@@ -127,6 +127,7 @@ mod tests {
             nmk: [0x4B; 16],
             validation_not_required,
             edition,
+            carriers: 0x0102_0304,
         };
         SessionLog::new(&configuration)
     }
@@ -137,7 +138,8 @@ mod tests {
 
     #[test]
     fn each_setting_has_its_number() {
-        assert_eq!(begun(false, Edition::Sae).octets()[55..], [0, 0, 0, 0, 1, 0, 0, 0]);
+        let settings = [0, 0, 0, 0, 1, 0, 0, 0, 4, 3, 2, 1];
+        assert_eq!(begun(false, Edition::Sae).octets()[55..], settings);
     }
 
     #[test]
@@ -148,9 +150,9 @@ mod tests {
         log.terminate(Err(Refusal::WrongState));
         log.tick(7, Err(Refusal::TickGap));
         log.link_up(Err(Refusal::WrongState));
-        let head = [5, 0, 0, 0, 5, 0, 0, 0, 63, 0, 0, 0, 126, 0, 0, 0, 186, 0, 0, 0];
+        let head = [5, 0, 0, 0, 5, 0, 0, 0, 67, 0, 0, 0, 130, 0, 0, 0, 190, 0, 0, 0];
         let places = [2, 0, 0, 0, 0, 0xAA, 2, 0, 0, 0, 0, 0xBB, 1, 2, 3, 4, 5, 6, 0x3F];
-        let rest = [&[0x4B; 16][..], &[1, 0, 0, 0, 0, 0, 0, 0]].concat();
+        let rest = [&[0x4B; 16][..], &[1, 0, 0, 0, 0, 0, 0, 0, 4, 3, 2, 1]].concat();
         let events: [&[u8]; 5] = [
             &[2, 0, 0, 0, 4, 3, 2, 1, 1, 0, 0, 0, 5],
             &[0, 0, 0, 0, 0, 0, 0, 0, 2, 0, 0, 0, 9, 8],

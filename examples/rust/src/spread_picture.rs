@@ -100,6 +100,7 @@ fn session(trouble: Trouble) -> Result<Vec<Step>, Box<dyn Error>> {
         nmk: *b"a key for tests.",
         validation_not_required: false,
         edition: Edition::Iso,
+        carriers: 1155,
     })?;
     let (mut out, mut steps) = ([0; LEAST_OUTPUT], Vec::new());
     let mut hear =

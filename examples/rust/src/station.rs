@@ -20,6 +20,8 @@ use std::time::Duration;
 
 const STATION: Address = [2, 0, 0, 0, 0, 0xAA];
 const MODEM: Address = [2, 0, 0, 0, 0, 0xBB];
+/// Of our modem, as its manual says; they decide about amplitude maps alone.
+const CARRIERS: u32 = 1155;
 const NEXT_STATION: Address = [2, 0, 0, 0, 0, 0xCC];
 const OUR_CAR: Car = Car { address: [2, 0, 0, 0, 0, 1], run: [1, 2, 3, 4, 5, 6, 7, 8] };
 const NEIGHBOUR: Car = Car { address: [2, 0, 0, 0, 0, 2], run: [9; 8] };
@@ -218,6 +220,7 @@ fn main() -> ExitCode {
         nmk: *b"a key for tests.",
         validation_not_required: false,
         edition: Edition::Iso,
+        carriers: CARRIERS,
     };
     let mut station = match Station::new(&configuration) {
         Ok(station) => station,
