@@ -280,6 +280,33 @@ static void refusals_of_matching(void)
     same("the chosen one's report", hear_report(LAHZAVAR_STATIONS, 0).frames, 1);
 }
 
+/* No state of a car takes an amplitude map or its confirmation. */
+static void no_map(void)
+{
+    struct car from = other;
+    memcpy(from.address, station(1), 6);
+    same("a map", hear(write_map_req(frame, &from, us.address, 6, 3)).refusal, LAHZAVAR_WRONG_STATE);
+    same("a map's confirmation", hear(write_map_cnf(frame, &us, station(1), 0)).refusal, LAHZAVAR_WRONG_STATE);
+    same("a map to another car", hear(write_map_req(frame, &from, other.address, 6, 3)).refusal, LAHZAVAR_NOT_FOR_US);
+    same("a map without carriers", hear(write_map_req(frame, &from, us.address, 0, 0)).refusal, LAHZAVAR_BAD_OCTET);
+}
+
+static void maps(void)
+{
+    configure(0);
+    no_map();
+    asking(0);
+    no_map();
+    sounding(0);
+    no_map();
+    requesting();
+    no_map();
+    joining();
+    no_map();
+    same("link established", lahzavar_car_link_up(&car).indication, LAHZAVAR_LINK_ESTABLISHED);
+    no_map();
+}
+
 /* After a gap in the clock ticks are refused; terminate and start take a reading. */
 static void clock_gap(void)
 {
@@ -404,6 +431,7 @@ int main(void)
     refusals_of_reading();
     only_for_stations();
     refusals_of_matching();
+    maps();
     clock_gap();
     missing_arguments();
     bad_configurations();

@@ -8,7 +8,7 @@
 
 #define STAGES 9
 #define PLACES (LAHZAVAR_STATIONS + 1)
-#define FRAMES 8
+#define FRAMES 10
 #define KINDS (FRAMES + 5)
 
 static struct lahzavar_car stages[STAGES];
@@ -84,6 +84,10 @@ static size_t write_frame(uint8_t *frame, size_t which, const uint8_t *station)
         return write_validate_req(frame, &us, station, 0);
     case 6:
         return write_validate_cnf(frame, &us, station, (unsigned)below(256), (unsigned)below(5));
+    case 7:
+        return write_map_req(frame, &us, station, (unsigned)below(LAHZAVAR_CARRIERS + 2), (unsigned)below(16));
+    case 8:
+        return write_map_cnf(frame, &us, station, (unsigned)below(3));
     default:
         return write_random(frame);
     }

@@ -73,7 +73,7 @@ static void configure(void)
 {
     struct lahzavar_answer answer =
         lahzavar_station_configure(&station, lahzavar_address(us), lahzavar_address(modem), lahzavar_nid(nid), nmk, false,
-                                   LAHZAVAR_ISO);
+                                   LAHZAVAR_ISO, LAHZAVAR_CARRIERS);
     same("configuring", 0, answer.refusal, LAHZAVAR_ACCEPTED);
 }
 

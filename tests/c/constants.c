@@ -1,11 +1,14 @@
 /*
  * The numbers of lahzavar.h against the library: sizes, and each refusal, indication, state and pilot of a station by what
- * it does; and what the header adds: sentences, NULL, and wiped stations. car_constants.c has those of a car.
+ * it does; and what the header adds: sentences, NULL, and wiped stations. car_constants.c has those of a car, and
+ * map_constants.c the calls for amplitude maps.
  */
 #include "checks.h"
 #include "lahzavar.h"
 #include "sae_frames.h"
 #include "station_frames.h"
+
+#define CARRIERS 6u
 
 static const uint8_t us[6] = {2, 0, 0, 0, 0, 0xAA};
 static const uint8_t modem[6] = {2, 0, 0, 0, 0, 0xBB};
@@ -44,8 +47,9 @@ static void pilot(enum lahzavar_pilot_state now)
 
 static void configure_as(bool validation_not_required, enum lahzavar_edition edition)
 {
-    struct lahzavar_answer answer = lahzavar_station_configure(&station, lahzavar_address(us), lahzavar_address(modem),
-                                                               lahzavar_nid(nid), nmk, validation_not_required, edition);
+    struct lahzavar_answer answer =
+        lahzavar_station_configure(&station, lahzavar_address(us), lahzavar_address(modem), lahzavar_nid(nid), nmk,
+                                   validation_not_required, edition, CARRIERS);
     same("configuring", answer.refusal, LAHZAVAR_ACCEPTED);
 }
 
@@ -82,6 +86,7 @@ static void sizes(void)
     same("library fits", (size_t)lahzavar_library_fits(), 1);
     same("answer", sizeof(struct lahzavar_answer), 16);
     same("heard", sizeof(struct lahzavar_heard), 8);
+    same("inspection", sizeof(struct lahzavar_inspection), 16);
     same("key in numbers", sizeof(struct lahzavar_key_numbers), 40);
     same("a car", sizeof(struct lahzavar_car), 8 * LAHZAVAR_CAR_WORDS);
     same("sums in the station", offsetof(struct lahzavar_station, private_sums), 8 * LAHZAVAR_WORDS);
@@ -131,6 +136,7 @@ static void refusals_of_reading(void)
     same("only for cars", hear(write_report(frame, &first, us, 10, 0)).refusal, LAHZAVAR_ONLY_FOR_CARS);
     same("only for cars", hear(write_match_cnf(frame, &first, us, nid, nmk)).refusal, LAHZAVAR_ONLY_FOR_CARS);
     same("only for cars", hear(write_validate_cnf(frame, &first, us, 1, 2)).refusal, LAHZAVAR_ONLY_FOR_CARS);
+    same("only for cars", hear(write_map_cnf(frame, &first, us, 0)).refusal, LAHZAVAR_ONLY_FOR_CARS);
     same("not for us", hear(write_rsp(frame, &first, modem)).refusal, LAHZAVAR_NOT_FOR_US);
 }
 
@@ -212,10 +218,25 @@ static void query_gives(const struct car *car, uint32_t sounds, unsigned low, un
     all_octets("a greatest value", greatest, LAHZAVAR_GROUPS, (uint8_t)high);
 }
 
+/* The inspection, which leaves the station as it was, tells this state and car. */
+static void inspected(uint32_t state, uint64_t car)
+{
+    struct lahzavar_station before = station;
+    struct lahzavar_inspection told = lahzavar_station_inspect(&station);
+    same("the station behind an inspection", (size_t)memcmp(&station, &before, sizeof before), 0);
+    same("the inspection's refusal", told.refusal, LAHZAVAR_ACCEPTED);
+    same("its state", told.state, state);
+    same("its car", (size_t)told.car, (size_t)car);
+    same("the state alone", lahzavar_station_state(&station), state);
+}
+
 /* A station that was badly configured or wiped, or NULL: every call answers 16, and no output is written. */
 static void answers_nothing(struct lahzavar_station *other)
 {
+    struct lahzavar_inspection told = lahzavar_station_inspect(other);
     size_t length = write_parm_req(frame, &first);
+    same("inspection", told.refusal, LAHZAVAR_BAD_CONFIGURATION);
+    same("its state and car", told.state | (size_t)told.car, 0);
     memset(out, 0xEE, sizeof out);
     same("frame", lahzavar_station_frame(other, frame, length, out, sizeof out).refusal, LAHZAVAR_BAD_CONFIGURATION);
     same("no frame", lahzavar_station_frame(other, NULL, 0, NULL, 0).refusal, LAHZAVAR_BAD_CONFIGURATION);
@@ -238,7 +259,7 @@ static void configure_badly(uint64_t address, uint64_t other, uint64_t network, 
 {
     struct lahzavar_answer answer;
     plug_in();
-    answer = lahzavar_station_configure(&station, address, other, network, key, false, edition);
+    answer = lahzavar_station_configure(&station, address, other, network, key, false, edition, CARRIERS);
     same("bad configuration", answer.refusal, LAHZAVAR_BAD_CONFIGURATION);
     same("its indication, frames and octets", answer.indication | answer.frames | answer.octets, 0);
     answers_nothing(&station);
@@ -268,7 +289,7 @@ static void editions(void)
     for (at = 0; at < sizeof numbers / sizeof *numbers; at++) {
         struct lahzavar_answer answer =
             lahzavar_configure(station.private_words, station.private_sums, station.private_spread, lahzavar_address(us),
-                               lahzavar_address(modem), lahzavar_nid(nid), 1, 2, 0, numbers[at]);
+                               lahzavar_address(modem), lahzavar_nid(nid), 1, 2, 0, numbers[at], CARRIERS);
         if (numbers[at] > 1) {
             same("a bad edition", answer.refusal, LAHZAVAR_BAD_CONFIGURATION);
             answers_nothing(&station);
@@ -281,13 +302,37 @@ static void editions(void)
     }
 }
 
+/* A station has 1 to 1155 carriers. */
+static void numbers_of_carriers(void)
+{
+    static const uint32_t good[] = {1, 2, 6, 917, 1154, 1155};
+    static const uint32_t bad[] = {0, 1156, 2310, 65536, 65536 + 6, 0x80000001u, UINT32_MAX};
+    uint64_t ours = lahzavar_address(us), modems = lahzavar_address(modem), network = lahzavar_nid(nid);
+    size_t at;
+    same("the most carriers", LAHZAVAR_CARRIERS, 1155);
+    for (at = 0; at < sizeof good / sizeof *good; at++) {
+        struct lahzavar_answer answer =
+            lahzavar_station_configure(&station, ours, modems, network, nmk, false, LAHZAVAR_ISO, good[at]);
+        same("a number of carriers", answer.refusal, LAHZAVAR_ACCEPTED);
+        same("a tick", tick(0).refusal, LAHZAVAR_ACCEPTED);
+        inspected(LAHZAVAR_UNMATCHED, 0);
+    }
+    for (at = 0; at < sizeof bad / sizeof *bad; at++) {
+        struct lahzavar_answer answer;
+        plug_in();
+        answer = lahzavar_station_configure(&station, ours, modems, network, nmk, false, LAHZAVAR_ISO, bad[at]);
+        same("a bad number of carriers", answer.refusal, LAHZAVAR_BAD_CONFIGURATION);
+        answers_nothing(&station);
+    }
+}
+
 static void no_station(void)
 {
     struct lahzavar_answer answer =
         lahzavar_station_configure(NULL, lahzavar_address(us), lahzavar_address(modem), lahzavar_nid(nid), nmk, false,
-                                   LAHZAVAR_ISO);
+                                   LAHZAVAR_ISO, CARRIERS);
     same("configuring no station", answer.refusal, LAHZAVAR_BAD_CONFIGURATION);
-    answer = lahzavar_station_configure(NULL, 1, 2, 3, NULL, true, LAHZAVAR_SAE);
+    answer = lahzavar_station_configure(NULL, 1, 2, 3, NULL, true, LAHZAVAR_SAE, 0);
     same("the same without an NMK", answer.refusal, LAHZAVAR_BAD_CONFIGURATION);
     lahzavar_station_wipe(NULL);
     answers_nothing(NULL);
@@ -443,7 +488,7 @@ static void exemptions(void)
     for (at = 0; at < sizeof numbers / sizeof *numbers; at++) {
         struct lahzavar_answer answer =
             lahzavar_configure(station.private_words, station.private_sums, station.private_spread, lahzavar_address(us),
-                               lahzavar_address(modem), lahzavar_nid(nid), 1, 2, numbers[at], LAHZAVAR_ISO);
+                               lahzavar_address(modem), lahzavar_nid(nid), 1, 2, numbers[at], LAHZAVAR_ISO, CARRIERS);
         same("configuring", answer.refusal, LAHZAVAR_ACCEPTED);
         pilot(LAHZAVAR_PILOT_B);
         awaited(&first);
@@ -729,11 +774,122 @@ static void sae_match(void)
     answer = hear(write_sae_match_req(frame, &first, us, others));
     answered("the match again", answer, write_sae_match_cnf(frame, &first, us, others, nid, nmk));
     same("link established", lahzavar_station_link_up(&station).indication, LAHZAVAR_LINK_ESTABLISHED);
+    memset(out, 0xEE, sizeof out);
+    answer = hear(write_map_req(frame, &first, us, CARRIERS, 15));
+    answered("the confirmation of a map", answer, write_map_cnf(frame, &first, us, 0));
     plug_in();
     same("an ISO station's confirmation", hear(write_parm_req(frame, &first)).frames, 1);
     same("a start of SAE", hear(write_sae_start(frame, &first, first_try)).refusal, LAHZAVAR_BAD_OCTET);
     awaited(&first);
     same("identifiers", hear(write_sae_match_req(frame, &first, us, ids)).refusal, LAHZAVAR_BAD_OCTET);
+}
+
+/* A car that is matched at a station with so many carriers. */
+static void matched(const struct car *car, uint32_t carriers)
+{
+    struct lahzavar_answer answer = lahzavar_station_configure(&station, lahzavar_address(us), lahzavar_address(modem),
+                                                               lahzavar_nid(nid), nmk, false, LAHZAVAR_ISO, carriers);
+    same("configuring", answer.refusal, LAHZAVAR_ACCEPTED);
+    pilot(LAHZAVAR_PILOT_B);
+    awaited(car);
+    same("match", hear(write_match_req(frame, car, us)).frames, 1);
+    same("link established", lahzavar_station_link_up(&station).indication, LAHZAVAR_LINK_ESTABLISHED);
+}
+
+/* The inspection in each state: the car in Joining and in Matched, also after changes among B, C and D; else none. */
+static void inspections(void)
+{
+    uint64_t car = lahzavar_address(first.address);
+    configure();
+    inspected(LAHZAVAR_UNMATCHED, 0);
+    pilot(LAHZAVAR_PILOT_B);
+    awaited(&first);
+    inspected(LAHZAVAR_MATCHING, 0);
+    same("match", hear(write_match_req(frame, &first, us)).frames, 1);
+    inspected(LAHZAVAR_JOINING, car);
+    pilot(LAHZAVAR_PILOT_C);
+    same("tick", tick(11999).indication, LAHZAVAR_NO_INDICATION);
+    inspected(LAHZAVAR_JOINING, car);
+    same("no link", tick(12000).indication, LAHZAVAR_NO_LINK);
+    inspected(LAHZAVAR_UNMATCHED, 0);
+    matched(&first, CARRIERS);
+    inspected(LAHZAVAR_MATCHED, car);
+    pilot(LAHZAVAR_PILOT_C);
+    pilot(LAHZAVAR_PILOT_D);
+    pilot(LAHZAVAR_PILOT_B);
+    same("tick", tick(60000).refusal, LAHZAVAR_ACCEPTED);
+    inspected(LAHZAVAR_MATCHED, car);
+    pilot(LAHZAVAR_PILOT_A);
+    inspected(LAHZAVAR_UNMATCHED, 0);
+    matched(&first, CARRIERS);
+    same("terminate", lahzavar_station_terminate(&station).refusal, LAHZAVAR_ACCEPTED);
+    inspected(LAHZAVAR_UNMATCHED, 0);
+}
+
+/* An amplitude map of the matched car, as often as it comes, is confirmed by 60 octets, and changes nothing. */
+static void map_confirmed(const struct car *car, unsigned carriers)
+{
+    struct lahzavar_station before = station;
+    struct lahzavar_answer answer;
+    unsigned again;
+    for (again = 0; again < 2; again++) {
+        memset(out, 0xEE, sizeof out);
+        answer = hear(write_map_req(frame, car, us, carriers, again));
+        same("a map's refusal", answer.refusal, LAHZAVAR_ACCEPTED);
+        same("its indication", answer.indication, LAHZAVAR_NO_INDICATION);
+        same("its octets", answer.octets, LAHZAVAR_CONFIRMATION_OCTETS);
+        answered("the confirmation of a map", answer, write_map_cnf(frame, car, us, 0));
+    }
+    same("the station behind a map", (size_t)memcmp(&station, &before, sizeof before), 0);
+}
+
+/* A refused amplitude map leaves station and output. */
+static void map_refused(const char *what, size_t length, uint32_t refusal)
+{
+    struct lahzavar_station before = station;
+    struct lahzavar_answer answer;
+    memset(out, 0xEE, sizeof out);
+    answer = hear(length);
+    same(what, answer.refusal, refusal);
+    same("its indication, frames and octets", answer.indication | answer.frames | answer.octets, 0);
+    same("the station behind a refused map", (size_t)memcmp(&station, &before, sizeof before), 0);
+    all_octets("an octet of the output", out, sizeof out, 0xEE);
+}
+
+/* Amplitude maps before Matched, in it, and after it. */
+static void maps(void)
+{
+    struct car second = car_at(2);
+    size_t length;
+    configure();
+    map_refused("a map in unmatched", write_map_req(frame, &first, us, CARRIERS, 1), LAHZAVAR_WRONG_STATE);
+    pilot(LAHZAVAR_PILOT_B);
+    awaited(&first);
+    map_refused("a map in matching", write_map_req(frame, &first, us, CARRIERS, 1), LAHZAVAR_WRONG_STATE);
+    same("match", hear(write_match_req(frame, &first, us)).frames, 1);
+    map_refused("a map in joining", write_map_req(frame, &first, us, CARRIERS, 1), LAHZAVAR_WRONG_STATE);
+    same("link established", lahzavar_station_link_up(&station).indication, LAHZAVAR_LINK_ESTABLISHED);
+    map_confirmed(&first, CARRIERS);
+    map_refused("fewer carriers", write_map_req(frame, &first, us, CARRIERS - 1, 1), LAHZAVAR_OTHER_CARRIER_COUNT);
+    map_refused("more carriers", write_map_req(frame, &first, us, CARRIERS + 1, 1), LAHZAVAR_OTHER_CARRIER_COUNT);
+    map_refused("another car", write_map_req(frame, &second, us, CARRIERS, 1), LAHZAVAR_NO_RECORD);
+    map_refused("another car, more carriers", write_map_req(frame, &second, us, CARRIERS + 1, 1), LAHZAVAR_NO_RECORD);
+    map_refused("another station", write_map_req(frame, &first, modem, CARRIERS, 1), LAHZAVAR_NOT_FOR_US);
+    map_refused("no carriers", write_map_req(frame, &first, us, 0, 1), LAHZAVAR_BAD_OCTET);
+    length = write_map_req(frame, &first, us, CARRIERS + 1, 1);
+    frame[FRAME_HEAD + 2 + CARRIERS / 2] = 0x11;
+    map_refused("a last half that is not zero", length, LAHZAVAR_BAD_OCTET);
+    map_refused("a confirmation", write_map_cnf(frame, &first, us, 0), LAHZAVAR_ONLY_FOR_CARS);
+    map_refused("another message", write_parm_req(frame, &first), LAHZAVAR_WRONG_STATE);
+    pilot(LAHZAVAR_PILOT_C);
+    map_confirmed(&first, CARRIERS);
+    same("terminate", lahzavar_station_terminate(&station).refusal, LAHZAVAR_ACCEPTED);
+    map_refused("a map after the end", write_map_req(frame, &first, us, CARRIERS, 1), LAHZAVAR_WRONG_STATE);
+    matched(&second, LAHZAVAR_CARRIERS);
+    map_confirmed(&second, LAHZAVAR_CARRIERS);
+    map_refused("the car before", write_map_req(frame, &first, us, LAHZAVAR_CARRIERS, 1), LAHZAVAR_NO_RECORD);
+    matched(&first, 1);
+    map_confirmed(&first, 1);
 }
 
 static void states_and_indications(void)
@@ -775,6 +931,7 @@ int main(void)
     end_of_admission();
     bad_configurations();
     editions();
+    numbers_of_carriers();
     no_station();
     wiped_station();
     sentences();
@@ -791,6 +948,8 @@ int main(void)
     sae_frames_of_a_tick();
     frames_of_any_octets();
     sae_match();
+    inspections();
+    maps();
     pilots();
     return faults == 0 ? 0 : 1;
 }

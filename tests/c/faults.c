@@ -10,11 +10,14 @@
 #define EDITIONS 2
 #define STAGES 11
 #define CARS (LAHZAVAR_RECORDS + 1)
+#define MATCHED_CAR 4 /* the one that matches in the stages with a match */
+#define CARRIERS 6u
 
 static struct lahzavar_station stages[EDITIONS][STAGES];
 static struct car cars[CARS];
 static struct zone whole;           /* a station as one piece */
 static struct zone least, greatest; /* what the query fills */
+static struct zone values, levels;  /* what the calls for amplitude maps read besides a frame */
 static const uint8_t us[6] = {2, 0, 0, 0, 0, 0xAA};
 static const uint8_t modem[6] = {2, 0, 0, 0, 0, 0xBB};
 static const uint8_t nid[7] = {1, 2, 3, 4, 5, 6, 7};
@@ -36,6 +39,7 @@ static size_t octets_of(const uint8_t *frame, size_t there)
     case CM_ATTEN_CHAR_IND:
         return octets_of_report(frame, there);
     case CM_VALIDATE_CNF:
+    case CM_AMP_MAP_CNF:
         return LAHZAVAR_CONFIRMATION_OCTETS;
     case CM_SLAC_MATCH_CNF:
         return FRAME_HEAD + 90;
@@ -79,8 +83,8 @@ static void lend_changed(void)
     }
 }
 
-#define FRAMES 14
-#define KINDS (FRAMES + 5)
+#define FRAMES 16
+#define KINDS (FRAMES + 8)
 
 /* A frame that is written otherwise in SAE: 10 a start, 11 a profile, 12 a response, 13 a match request. */
 static size_t write_sae_frame(uint8_t *frame, size_t which, const struct car *car)
@@ -103,9 +107,23 @@ static size_t write_sae_frame(uint8_t *frame, size_t which, const struct car *ca
     }
 }
 
-/* A frame of each message that a station takes, one that it does not, and random octets. */
+/* A frame of amplitude maps: 14 a request, half of them of the matched car and half of them with our carriers, 15 a
+   confirmation. */
+static size_t write_map_frame(uint8_t *frame, size_t which, const struct car *car)
+{
+    unsigned carriers = below(2) == 0 ? CARRIERS : (unsigned)below(LAHZAVAR_CARRIERS + 2);
+    if (which == 15) {
+        return write_map_cnf(frame, car, us, (unsigned)below(3));
+    }
+    return write_map_req(frame, below(2) == 0 ? &cars[MATCHED_CAR] : car, us, carriers, (unsigned)below(16));
+}
+
+/* A frame of each message that a station takes, some that it does not, and random octets. */
 static size_t write_frame(uint8_t *frame, size_t which, const struct car *car)
 {
+    if (which >= 14) {
+        return write_map_frame(frame, which, car);
+    }
     if (which >= 10) {
         return write_sae_frame(frame, which, car);
     }
@@ -199,16 +217,118 @@ static void call_query(void)
     accepted += filled != 0;
 }
 
+/* The inspection: a refused one tells nothing, and a car is told in Joining and Matched alone. */
+static void call_inspect(void)
+{
+    struct lahzavar_inspection told;
+    begin("inspect");
+    told = lahzavar_inspect(read_words());
+    check_read();
+    check_refusal(told.refusal);
+    if (told.state > LAHZAVAR_MATCHED || (told.refusal != LAHZAVAR_ACCEPTED && told.state != 0) ||
+        (told.state < LAHZAVAR_JOINING && told.car != 0)) {
+        fail("a number out of range");
+    }
+    accepted += told.refusal == LAHZAVAR_ACCEPTED;
+}
+
 /* The calls that read: their arrays are lent through the view that can't be written. */
 static void call_readers(void)
 {
     call_query();
-    begin("state or records held");
-    if (lahzavar_state(read_words()) > (wiped ? LAHZAVAR_UNMATCHED : LAHZAVAR_MATCHED) ||
-        lahzavar_records_held(read_words()) > (wiped ? 0 : LAHZAVAR_RECORDS)) {
+    call_inspect();
+    begin("records held");
+    if (lahzavar_records_held(read_words()) > (wiped ? 0 : LAHZAVAR_RECORDS)) {
         fail("a number out of range");
     }
     check_read();
+}
+
+/* Lends an amplitude map's frame, whatever it becomes, and an output that may be too short. */
+static void lend_map(void)
+{
+    uint8_t frame[FRAME_MOST];
+    lend_frame(frame, write_map_frame(frame, 14 + below(2), &cars[below(CARS)]));
+    (void)take(&out, below(LAHZAVAR_CARRIERS + 2));
+}
+
+/* Lends so many values, and levels that are mostly as many; now and then one is out of range. */
+static void lend_values(void)
+{
+    size_t count = below(4) == 0 ? below(8) : below(LAHZAVAR_CARRIERS + 2), at;
+    size_t level_count = below(8) == 0 ? below(LAHZAVAR_CARRIERS + 2) : count;
+    uint8_t *value = take(&values, count);
+    int16_t *level = (int16_t *)(void *)take(&levels, level_count * sizeof *level);
+    for (at = 0; at < count; at++) {
+        value[at] = (uint8_t)below(16);
+    }
+    for (at = 0; at < level_count; at++) {
+        level[at] = (int16_t)-(int)below(129);
+    }
+    if (count > 0 && below(8) == 0) {
+        value[below(count)] = (uint8_t)next_random();
+    }
+    if (level_count > 0 && below(8) == 0) {
+        level[below(level_count)] = (int16_t)((int)below(65536) - 32768);
+    }
+    lend_map();
+}
+
+static void begin_map(const char *call)
+{
+    begin(call);
+    keep(&values);
+    keep(&levels);
+}
+
+/* What a call for amplitude maps promises: it fills as many places as it tells, and changes nothing else. */
+static void check_filled(struct lahzavar_filled filled)
+{
+    int refused = filled.refusal != LAHZAVAR_ACCEPTED;
+    if (filled.refusal > LAHZAVAR_LAST_REFUSAL || filled.count > out.size || refused != (filled.count == 0)) {
+        fail("a number out of range");
+    }
+    accepted += !refused;
+    check_read();
+    check_zone(&octets, 0, "the frame was changed");
+    check_zone(&values, 0, "values changed that may not");
+    check_zone(&levels, 0, "levels changed that may not");
+    check_zone(&out, filled.count, "output changed that may not");
+}
+
+static void call_map_readers(void)
+{
+    struct lahzavar_map map;
+    lend_map();
+    begin_map("read a map");
+    map = lahzavar_read_map(octets.reading + octets.at, octets.size);
+    if (map.carriers > LAHZAVAR_CARRIERS || map.result > 1 || (map.refusal == LAHZAVAR_ACCEPTED) != (map.kind != 0)) {
+        fail("a number out of range");
+    }
+    begin_map("the values of a map");
+    check_filled(lahzavar_values_of_map(octets.reading + octets.at, octets.size, out.view + out.at, out.size));
+}
+
+static void call_map_writers(void)
+{
+    uint64_t receiver = changed(1, some_car()), sender = changed(2, some_car());
+    lend_values();
+    begin_map("write a map");
+    check_filled(lahzavar_request_map(below(2) == 0 ? some_car() : receiver, below(2) == 0 ? some_car() : sender,
+                                      values.reading + values.at, values.size, out.view + out.at, out.size));
+    lend_values();
+    begin_map("confirm a map");
+    check_filled(lahzavar_confirm_map(below(2) == 0 ? some_car() : receiver, below(2) == 0 ? some_car() : sender,
+                                      (uint32_t)below(3), out.view + out.at, out.size));
+}
+
+static void call_reduce(void)
+{
+    lend_values();
+    begin_map("reduce");
+    check_filled(lahzavar_reduce_map(values.reading + values.at, values.size,
+                                     (const int16_t *)(const void *)(levels.reading + levels.at),
+                                     levels.size / sizeof(int16_t), out.view + out.at, out.size));
 }
 
 static void call_configure(void)
@@ -216,13 +336,15 @@ static void call_configure(void)
     begin("configure");
     check_configured(lahzavar_configure(lent_words(), lent_sums(), lent_spread(), changed(0, some_car()),
                                         changed(1, some_car()), changed(2, 3), next_random(), next_random(),
-                                        (uint32_t)changed(0, 1), (uint32_t)(below(2) == 0 ? below(3) : changed(0, 1))));
+                                        (uint32_t)changed(0, 1), (uint32_t)(below(2) == 0 ? below(3) : changed(0, 1)),
+                                        (uint32_t)(below(2) == 0 ? CARRIERS : changed(CARRIERS, 1))));
 }
 
-/* One call of a kind: frames 0 to 13, tick, pilot, terminate, link up, readers. */
+/* One call of a kind: frames 0 to 15, tick, pilot, terminate, link up, readers, and the calls for amplitude maps. */
 static void call(size_t kind)
 {
-    static void (*const others[])(void) = {call_tick, call_pilot, call_terminate, call_link_up, call_readers};
+    static void (*const others[])(void) = {call_tick,    call_pilot,       call_terminate,   call_link_up,
+                                           call_readers, call_map_readers, call_map_writers, call_reduce};
     if (kind < FRAMES) {
         call_frame(kind);
     } else {
@@ -311,10 +433,10 @@ static void set_up_records(struct lahzavar_station *station, size_t edition, siz
 static void set_up_validation(struct lahzavar_station *station, size_t stage)
 {
     uint8_t frame[FRAME_MOST], room[LAHZAVAR_LEAST_OUTPUT];
-    size_t length = write_validate_req(frame, &cars[4], us, 0);
+    size_t length = write_validate_req(frame, &cars[MATCHED_CAR], us, 0);
     uint32_t confirmed = lahzavar_station_frame(station, frame, length, room, sizeof room).frames;
     if (stage >= 8) {
-        length = write_validate_req(frame, &cars[4], broadcast_address, 0);
+        length = write_validate_req(frame, &cars[MATCHED_CAR], broadcast_address, 0);
         confirmed += lahzavar_station_frame(station, frame, length, room, sizeof room).refusal == LAHZAVAR_ACCEPTED;
         (void)lahzavar_station_pilot(station, LAHZAVAR_PILOT_C, 1000);
     }
@@ -333,7 +455,7 @@ static void set_up_stage(struct lahzavar_station *station, size_t edition, size_
     uint8_t room[LAHZAVAR_LEAST_OUTPUT];
     uint64_t other = lahzavar_address(at == STAGES - 1 ? us : modem);
     (void)lahzavar_station_configure(station, lahzavar_address(us), other, lahzavar_nid(nid), nmk, at == 3,
-                                     (enum lahzavar_edition)edition);
+                                     (enum lahzavar_edition)edition, CARRIERS);
     if (at > 0) {
         (void)lahzavar_station_pilot(station, LAHZAVAR_PILOT_B, 1000);
     }
@@ -341,7 +463,7 @@ static void set_up_stage(struct lahzavar_station *station, size_t edition, size_
     if (at == 4) {
         (void)lahzavar_station_tick(station, 1600, room, sizeof room);
     } else if (at == 5 || at == 6) {
-        play(station, edition, PLAY_MATCH, &cars[4]);
+        play(station, edition, PLAY_MATCH, &cars[MATCHED_CAR]);
     } else if (at >= 7 && at < STAGES - 1) {
         set_up_validation(station, at);
     }
@@ -356,6 +478,10 @@ static void set_up(void)
     make_zone(&whole);
     make_zone(&least);
     make_zone(&greatest);
+    make_zone(&values);
+    make_zone(&levels);
+    (void)take(&values, 0);
+    (void)take(&levels, 0);
     for (at = 0; at < CARS; at++) {
         static const struct car model = {{2, 0, 0, 0, 0, 0}, {7, 7, 7, 7, 7, 7, 7, 7}};
         cars[at] = model;

@@ -3,7 +3,7 @@
  * One line to a figure: its name, a tab, octets.
  *
  * The calls are those of one matching in each edition with every record held, each of which must be accepted, so that the
- * long ways are gone. A figure is the greater one of both editions.
+ * long ways are gone. A figure is the greater one of both editions. The calls for amplitude maps have the most carriers.
  */
 #define _GNU_SOURCE
 #include "sae_frames.h"
@@ -18,6 +18,8 @@ static struct lahzavar_station station;
 static enum lahzavar_edition edition;
 static uint8_t out[LAHZAVAR_LEAST_OUTPUT];
 static uint8_t least[LAHZAVAR_GROUPS], greatest[LAHZAVAR_GROUPS];
+static uint8_t values[LAHZAVAR_CARRIERS];
+static int16_t levels[LAHZAVAR_CARRIERS];
 static uint8_t frame[FRAME_MOST];
 static size_t length;
 static uint32_t reading;
@@ -26,8 +28,8 @@ static volatile uint32_t number;
 
 static void call_configure(void)
 {
-    answer = lahzavar_station_configure(&station, lahzavar_address(us), lahzavar_address(modem), lahzavar_nid(nid), nmk, false,
-                                        edition);
+    answer = lahzavar_station_configure(&station, lahzavar_address(us), lahzavar_address(modem), lahzavar_nid(nid), nmk,
+                                        false, edition, LAHZAVAR_CARRIERS);
 }
 
 static void call_frame(void)
@@ -60,6 +62,11 @@ static void call_query(void)
     answer.refusal = lahzavar_station_query(&station, 0x020000000001u, least, greatest).refusal;
 }
 
+static void call_inspect(void)
+{
+    answer.refusal = lahzavar_station_inspect(&station).refusal;
+}
+
 static void call_state(void)
 {
     number = lahzavar_station_state(&station);
@@ -75,7 +82,51 @@ static void call_wipe(void)
     lahzavar_station_wipe(&station);
 }
 
-enum call { CONFIGURE, FRAME, MATCH, TICK, PILOT, TERMINATE, LINK_UP, QUERY, STATE, RECORDS, WIPE, CALLS };
+static void call_map_read(void)
+{
+    answer.refusal = lahzavar_map_read(frame, length).refusal;
+}
+
+static void call_map_values(void)
+{
+    answer.refusal = lahzavar_map_values(frame, length, values, sizeof values).refusal;
+}
+
+static void call_map_request(void)
+{
+    answer.refusal = lahzavar_map_request(0x020000000001u, 0x0200000000AAu, values, sizeof values, out, sizeof out).refusal;
+}
+
+static void call_map_confirm(void)
+{
+    answer.refusal = lahzavar_map_confirm(0x020000000001u, 0x0200000000AAu, true, out, sizeof out).refusal;
+}
+
+static void call_map_reduce(void)
+{
+    answer.refusal = lahzavar_map_reduce(values, LAHZAVAR_CARRIERS, levels, LAHZAVAR_CARRIERS, out, sizeof out).refusal;
+}
+
+enum call {
+    CONFIGURE,
+    FRAME,
+    MATCH,
+    TICK,
+    PILOT,
+    TERMINATE,
+    LINK_UP,
+    QUERY,
+    INSPECT,
+    STATE,
+    RECORDS,
+    WIPE,
+    MAP_READ,
+    MAP_VALUES,
+    MAP_REQUEST,
+    MAP_CONFIRM,
+    MAP_REDUCE,
+    CALLS
+};
 
 static struct figure figures[CALLS] = {
     {"lahzavar_station_configure", call_configure, 0},
@@ -86,9 +137,15 @@ static struct figure figures[CALLS] = {
     {"lahzavar_station_terminate", call_terminate, 0},
     {"lahzavar_station_link_up", call_link_up, 0},
     {"lahzavar_station_query", call_query, 0},
+    {"lahzavar_station_inspect", call_inspect, 0},
     {"lahzavar_station_state", call_state, 0},
     {"lahzavar_station_records_held", call_records, 0},
     {"lahzavar_station_wipe", call_wipe, 0},
+    {"lahzavar_map_read", call_map_read, 0},
+    {"lahzavar_map_values", call_map_values, 0},
+    {"lahzavar_map_request", call_map_request, 0},
+    {"lahzavar_map_confirm", call_map_confirm, 0},
+    {"lahzavar_map_reduce", call_map_reduce, 0},
 };
 
 static void measure_frame(size_t octets)
@@ -100,6 +157,7 @@ static void measure_frame(size_t octets)
 static void measure_readers(void)
 {
     measure(&figures[QUERY]);
+    measure(&figures[INSPECT]);
     measure(&figures[STATE]);
     measure(&figures[RECORDS]);
 }
@@ -175,10 +233,11 @@ static void measure_validation(unsigned place)
 
 /*
  * A report by the last profile, its response, the validation and the match request of every car, and what follows the last
- * one.
+ * one, its amplitude map too.
  */
 static void measure_joining(void)
 {
+    struct car last = car_at(LAHZAVAR_RECORDS - 1);
     unsigned place;
     for (place = 0; place < LAHZAVAR_RECORDS; place++) {
         struct car car = car_at(place);
@@ -193,6 +252,9 @@ static void measure_joining(void)
     measure_loss();
     measure_aside(&figures[TICK]);
     measure(&figures[LINK_UP]);
+    measure_frame(write_map_req(frame, &last, us, LAHZAVAR_CARRIERS, 15));
+    has_frames(&figures[FRAME], 1);
+    measure(&figures[INSPECT]);
     measure_loss();
     measure_aside(&figures[TICK]);
 }
@@ -213,12 +275,23 @@ static void measure_edition(enum lahzavar_edition now)
     measure(&figures[WIPE]);
 }
 
+static void measure_maps(void)
+{
+    struct car car = car_at(0);
+    enum call call;
+    length = write_map_req(frame, &car, us, LAHZAVAR_CARRIERS, 15);
+    for (call = MAP_READ; call <= MAP_REDUCE; call++) {
+        measure(&figures[call]);
+    }
+}
+
 int main(void)
 {
     state = &station;
     state_octets = sizeof station;
     measure_edition(LAHZAVAR_ISO);
     measure_edition(LAHZAVAR_SAE);
+    measure_maps();
     printf("a station\t%lu\n", (unsigned long)sizeof station);
     printf("a station's least output\t%lu\n", (unsigned long)sizeof out);
     print_figures(figures, CALLS);

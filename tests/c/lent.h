@@ -234,9 +234,9 @@ static inline uint64_t changed(uint64_t word, uint64_t address)
 {
     static const uint64_t limits[] = {0,          1,          4,          7,          10,     13,         16,
                                       40,         58,         100,        200,        256,    400,        600,
-                                      1000,       1200,       10000,      12000,      14790,  25600,      50000,
-                                      0xFFFF,     0xFFFFFFFF, 1ull << 32, 1ull << 47, 1ull << 48, 1ull << 54,
-                                      1ull << 63, ~0ull};
+                                      1000,       1155,       1200,       10000,      12000,  14790,      25600,
+                                      50000,      0xFFFF,     0xFFFFFFFF, 1ull << 32, 1ull << 47, 1ull << 48,
+                                      1ull << 54, 1ull << 63, ~0ull};
     switch (below(5)) {
     case 0:
         return next_random();

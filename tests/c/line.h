@@ -102,6 +102,10 @@ static inline const char *message_name(unsigned type)
         return "CM_SET_KEY.REQ";
     case CM_SET_KEY_CNF:
         return "CM_SET_KEY.CNF";
+    case CM_AMP_MAP_REQ:
+        return "CM_AMP_MAP.REQ";
+    case CM_AMP_MAP_CNF:
+        return "CM_AMP_MAP.CNF";
     case CM_SLAC_PARM_REQ:
         return "CM_SLAC_PARM.REQ";
     case CM_SLAC_PARM_CNF:

@@ -584,7 +584,7 @@ static void configure_station(struct line *line, unsigned bay)
     fill(own->nmk, 16);
     own->nid[6] &= 0x3F;
     answer = lahzavar_station_configure(&own->station, lahzavar_address(us), lahzavar_address(modem), lahzavar_nid(own->nid),
-                                        own->nmk, is_sae(line, bay), own->edition);
+                                        own->nmk, is_sae(line, bay), own->edition, LAHZAVAR_CARRIERS);
     check_refusal(line, bay, answer.refusal);
 }
 

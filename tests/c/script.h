@@ -32,11 +32,16 @@ static inline void take(uint8_t *place, size_t count)
     }
 }
 
+static inline uint32_t number_in(const uint8_t four[4])
+{
+    return (uint32_t)four[0] | (uint32_t)four[1] << 8 | (uint32_t)four[2] << 16 | (uint32_t)four[3] << 24;
+}
+
 static inline uint32_t take_number(void)
 {
     uint8_t four[4];
     take(four, 4);
-    return (uint32_t)four[0] | (uint32_t)four[1] << 8 | (uint32_t)four[2] << 16 | (uint32_t)four[3] << 24;
+    return number_in(four);
 }
 
 /* A setting of the head: 1 for yes, 0 for no; of the edition, 1 for SAE, 0 for ISO. */
@@ -61,12 +66,19 @@ static inline void take_event(struct event *event)
     take(event->octets, event->length);
 }
 
+static inline void store_number(uint8_t four[4], uint32_t number)
+{
+    int at;
+    for (at = 0; at < 4; at++) {
+        four[at] = (uint8_t)(number >> 8 * at & 0xFF);
+    }
+}
+
 static inline void put_number(uint32_t number)
 {
-    putchar((int)(number & 0xFF));
-    putchar((int)(number >> 8 & 0xFF));
-    putchar((int)(number >> 16 & 0xFF));
-    putchar((int)(number >> 24 & 0xFF));
+    uint8_t four[4];
+    store_number(four, number);
+    fwrite(four, 1, 4, stdout);
 }
 
 /* A refusal or 0, an indication, and the octets that were answered. */

@@ -40,8 +40,10 @@ static bool begin(const uint8_t *place, uint8_t *room, size_t octets)
     uint64_t address = lahzavar_address(place), modem = lahzavar_address(place + 6), nid = lahzavar_nid(place + 12);
     bool validation_not_required = place[35] == 1;
     enum lahzavar_edition edition = place[39] == 1 ? LAHZAVAR_SAE : LAHZAVAR_ISO;
-    (void)lahzavar_station_configure(&station, address, modem, nid, place + 19, validation_not_required, edition);
-    return session_log_begin(&session, room, octets, address, modem, nid, place + 19, validation_not_required, edition);
+    uint32_t carriers = number_at(SESSION_LOG_HEAD + 43);
+    (void)lahzavar_station_configure(&station, address, modem, nid, place + 19, validation_not_required, edition, carriers);
+    return session_log_begin(&session, room, octets, address, modem, nid, place + 19, validation_not_required, edition,
+                             carriers);
 }
 
 /* The event at this place, to the station and, unless a tick is left out, to its log. Gives whether it was put there. */

@@ -40,6 +40,14 @@ static inline size_t write_validate_cnf(uint8_t *frame, const struct car *car, c
     return length;
 }
 
+/* What a station answers to an amplitude map: 0 for success, 1 for failure. */
+static inline size_t write_map_cnf(uint8_t *frame, const struct car *car, const uint8_t *station, unsigned result)
+{
+    size_t length = write_head(frame, car->address, station, CM_AMP_MAP_CNF, 1);
+    frame[FRAME_HEAD] = (uint8_t)result;
+    return length;
+}
+
 static inline size_t write_match_cnf(uint8_t *frame, const struct car *car, const uint8_t *station, const uint8_t nid[7],
                                      const uint8_t nmk[16])
 {

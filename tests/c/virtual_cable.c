@@ -32,6 +32,7 @@ static uint8_t modem[6] = {2, 0, 0, 0, 0, 0xBB};
 static uint8_t nid[7] = {1, 2, 3, 4, 5, 6, 7};
 static uint8_t nmk[16] = {0x4B, 0x4B, 0x4B, 0x4B, 0x4B, 0x4B, 0x4B, 0x4B, 0x4B, 0x4B, 0x4B, 0x4B, 0x4B, 0x4B, 0x4B, 0x4B};
 static unsigned long attenuation = 20, groups = LAHZAVAR_GROUPS, link_after = 1000, key_result = 0;
+static uint32_t carriers = LAHZAVAR_CARRIERS;
 static int once = 0, station_given = 0, typing = 1;
 static bool validation_not_required = false;
 static enum lahzavar_edition edition = LAHZAVAR_ISO;
@@ -51,6 +52,7 @@ static void usage(void)
                     "  --attenuation N     the value in every group of a profile (20)\n"
                     "  --sae               the SAE edition, in place of the ISO one\n"
                     "  --groups N          the groups of a profile, 1 to 58; the ISO edition takes no others than 58 (58)\n"
+                    "  --carriers N        our modem's carriers, which an amplitude map has to have, 1 to 1155 (1155)\n"
                     "  --link-after MS     link up so long after CM_SLAC_MATCH.CNF (1000)\n"
                     "  --key-result N      the result octet of CM_SET_KEY.CNF (0)\n"
                     "  --for-pev           what the program pev of open-plc-utils needs: --key-result 1\n"
@@ -128,10 +130,11 @@ static void receive(const uint8_t *frame, size_t length)
 
 static void plug_in(void)
 {
-    struct lahzavar_answer answer = lahzavar_station_configure(&station, lahzavar_address(us), lahzavar_address(modem),
-                                                               lahzavar_nid(nid), nmk, validation_not_required, edition);
+    struct lahzavar_answer answer =
+        lahzavar_station_configure(&station, lahzavar_address(us), lahzavar_address(modem), lahzavar_nid(nid), nmk,
+                                   validation_not_required, edition, carriers);
     if (answer.refusal != LAHZAVAR_ACCEPTED) {
-        fprintf(stderr, "bad configuration: two different unicast addresses, and a NID below 2^54\n");
+        fprintf(stderr, "bad configuration: two different unicast addresses, a NID below 2^54, and 1 to 1155 carriers\n");
         exit(2);
     }
     ended = 0;
@@ -305,6 +308,9 @@ static void read_option(int option)
     case 'g':
         read_groups();
         break;
+    case 'c':
+        carriers = (uint32_t)strtoul(optarg, NULL, 10);
+        break;
     case 'o':
         once = 1;
         break;
@@ -320,7 +326,8 @@ static const struct option long_options[] = {
     {"key-result", required_argument, NULL, 'r'},  {"for-pev", no_argument, NULL, 'p'},
     {"pilot-from", required_argument, NULL, 'f'},  {"validation-not-required", no_argument, NULL, 'n'},
     {"sae", no_argument, NULL, 'e'},               {"groups", required_argument, NULL, 'g'},
-    {"once", no_argument, NULL, 'o'},              {NULL, 0, NULL, 0}};
+    {"carriers", required_argument, NULL, 'c'},    {"once", no_argument, NULL, 'o'},
+    {NULL, 0, NULL, 0}};
 
 int main(int count, char **arguments)
 {
