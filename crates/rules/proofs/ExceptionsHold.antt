@@ -14,11 +14,11 @@ use Rattle.rules.specs.Frames.{startRule, soundRule, profileRule, rspRul
 use Rattle.ends.specs.Clock.{tickTime}
 use Rattle.rules.specs.Ticks.{tickPhase, recordOf, repliesOf, tickRecord, tickFrames, allFrames, windowEnds, admissionDone, joiningDone, tickDone}
 use Rattle.rules.specs.Rules.{freeRecord, configured, rule, takesReading, takesPilot, sharedStep, step, outcome}
-use Rattle.rules.specs.Demand3.{named, isCar, isOther, accepted, isTen, isRead, isKind, isTo, replies, isPlugIn, isEnd, anyFailure, endsFor, ends}
+use Rattle.rules.specs.Demand3.{named, isCar, isOther, accepted, isTen, isRead, isKind, isTo, replies, isPlugIn, isEnd, anyResult, endsFor, ends}
 use Rattle.rules.specs.Exceptions.{Exceptions}
 
 pub exceptions-hold : Exceptions
-unfolding value bytes lowValue lowBytes kindRules readRules noId writing.frame only joins sameCar sameRun isEmpty isHeld holds owned freed update insert noSums fresh inPhase withHeard merged noSpread widened fitsGroups counted isIn marked mean reportOf frameTo received plugged lost pilotDone linkRule startRule soundRule profileRule rspRule answered firstRule secondRule mayMatch requested parmRule changeRule matchRule put stateRule admitted tickTime tickPhase recordOf repliesOf tickRecord tickFrames allFrames windowEnds validates isValidating anyValidates firstResult fromB fromC fromD turn oneMore counts toggledPhase toggledRecord isReport isConfirmation isB admissionDone joiningDone tickDone freeRecord rule takesReading takesPilot sharedStep step outcome configured named isCar isOther accepted isTen isRead isKind isTo replies isPlugIn isEnd anyFailure endsFor ends
+unfolding value bytes lowValue lowBytes kindRules readRules noId writing.frame only joins sameCar sameRun isEmpty isHeld holds owned freed update insert noSums fresh inPhase withHeard merged noSpread widened fitsGroups counted isIn marked mean reportOf frameTo received plugged lost pilotDone linkRule startRule soundRule profileRule rspRule answered firstRule secondRule mayMatch requested parmRule changeRule matchRule put stateRule admitted tickTime tickPhase recordOf repliesOf tickRecord tickFrames allFrames windowEnds validates isValidating anyValidates firstResult fromB fromC fromD turn oneMore counts toggledPhase toggledRecord isReport isConfirmation isB admissionDone joiningDone tickDone freeRecord rule takesReading takesPilot sharedStep step outcome configured named isCar isOther accepted isTen isRead isKind isTo replies isPlugIn isEnd anyResult endsFor ends
 exceptions-hold = record {
   begins = refl;
   goes-on = refl;

@@ -23,14 +23,14 @@ use Rattle.amplitude.specs.Reading as amplitude
 use Rattle.amplitude.specs.Reading.{summaryOf}
 use Rattle.amplitude.proofs.NamedCars as maps
 use Rattle.rules.specs.declared.Configuration.{Configuration}
-use Rattle.rules.specs.Constants.{leastOutput}
+use Rattle.rules.specs.Constants.{windowCount, leastOutput}
 use Rattle.rules.specs.Received.{validateFirst, validateSecond, Request, forRecord, matchReq, mapReq, Received, receivedAs, messageAs, mapIn, received, isForUs}
 use Rattle.ends.specs.Outcomes.{andThen, orElse}
 use Rattle.rules.specs.FromOctets.{CountedValues, IsId, Holds, OctetRequest}
 use Rattle.rules.specs.Frames.{admitted}
 use Rattle.rules.specs.Demand3.{eitherCar, isRead}
 use Rattle.ends.proofs.Logic.{OnYes, on-check, on-else}
-use Rattle.rules.proofs.ReadingLaws.{timerIn, OctetMessage, read-octets}
+use Rattle.rules.proofs.ReadingLaws.{OctetMessage, read-octets, timerIn, TimerMessage, read-timer}
 use Rattle.rules.proofs.RuleLaws.{isAsk, isValidate}
 
 -- ---- the answers are those of reading
@@ -226,13 +226,18 @@ ids-right e s m o q =
 
 -- ---- what octets can ask for
 
-octet-message : (x : Checked Message) → OnYes OctetMessage x → (m : Message) → x ≡ yes m → OctetMessage m
-octet-message x h m q = subst (OnYes OctetMessage) q h
+of-read : (P : Message → Type 0) (x : Checked Message) → OnYes P x → (m : Message) → x ≡ yes m → P m
+of-read P x h m q = subst (OnYes P) q h
+
+timer-right : (e : Edition) (s : List ℕ) (m : Message) → readRules e s ≡ yes m → TimerMessage m
+timer-right e s = of-read TimerMessage (readRules e s) (read-timer e s)
 
 pub admitted-octets : (e : Edition) (o : Configuration) (room : ℕ) (s : List ℕ) → Octets s → OnYes (λ (y : Received). OctetRequest e (y .request)) (admitted o room (received e s))
 admitted-octets e o room s h = admitted-values (CountedValues e) (λ (t : ℕ). t < 256) (λ (a b : List ℕ). IsId e a × IsId e b) e o room s
-    (λ m q. let w : OctetMessage m = octet-message (readRules e s) (read-octets e s h) m q in
-    (λ k. record { count = count-right e s m q k; octets = w .0; past = past-profile e s m q k }, (λ v. w .1, λ v. ids-right e s m h q v)))
+    (λ m q. (
+      λ k. record { count = count-right e s m q k; octets = of-read OctetMessage (readRules e s) (read-octets e s h) m q; past = past-profile e s m q k },
+      (λ v. timer-right e s m q, λ v. ids-right e s m h q v)
+    ))
 
 -- a profile has a value for each group
 abbrev Long : ℕ → List ℕ → Type 0
@@ -243,3 +248,10 @@ LongRequest m = Holds Long (λ (t : ℕ). Unit {0}) (λ (a b : List ℕ). Unit {
 
 pub admitted-long : (e : Edition) (o : Configuration) (room : ℕ) (s : List ℕ) → OnYes (λ (y : Received). LongRequest (y .request)) (admitted o room (received e s))
 admitted-long e o room s = admitted-values Long (λ (t : ℕ). Unit {0}) (λ (a b : List ℕ). Unit {0}) e o room s (λ m q. (λ k. long-profile e s m q k, (λ v. tt, λ v. tt)))
+
+-- a timer counts one of the windows
+abbrev pub TimedRequest : Request → Type 0
+TimedRequest m = Holds (λ (g : ℕ) (vs : List ℕ). Unit {0}) (λ (t : ℕ). t < windowCount) (λ (a b : List ℕ). Unit {0}) m
+
+pub admitted-timed : (e : Edition) (o : Configuration) (room : ℕ) (s : List ℕ) → OnYes (λ (y : Received). TimedRequest (y .request)) (admitted o room (received e s))
+admitted-timed e o room s = admitted-values (λ (g : ℕ) (vs : List ℕ). Unit {0}) (λ (t : ℕ). t < windowCount) (λ (a b : List ℕ). Unit {0}) e o room s (λ m q. (λ k. tt, (λ v. timer-right e s m q, λ v. tt)))

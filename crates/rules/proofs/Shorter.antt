@@ -28,7 +28,7 @@ use Rattle.rules.specs.Received.{RecordMessage, parmReq, start, sound, p
 use Rattle.rules.specs.Validation.{anyValidates, firstResult}
 use Rattle.rules.specs.Frames.{Kept, Change, putBack, firstRule, secondRule, atOwn, changeRule, changed, stateRule, admitted, frameRule}
 use Rattle.rules.specs.Rules.{rule, step, outcome, after}
-use Rattle.rules.specs.Demand3.{named, isCar, accepted, isRead, isKind, isAccepted, isOwnAccepted, anyFailure, isEnd, endsFor, endsEarly, ends, begun, further, matched, Shorter, Longer, Undisturbed}
+use Rattle.rules.specs.Demand3.{named, isCar, accepted, isRead, isKind, isAccepted, isOwnAccepted, anyResult, anyFailure, isEnd, endsFor, endsEarly, ends, begun, further, matched, Shorter, Longer, Undisturbed}
 use Rattle.ends.proofs.Logic.{split, clash, or-left, or-right, OnYes}
 use Rattle.rules.proofs.RecordLaws.{none-freed}
 use Rattle.rules.proofs.RuleLaws.{on-own, on-back, isValidate}
@@ -63,7 +63,7 @@ module _ (o : Configuration) (c : CarAddress) (exempt : Bool) (rs : List Record)
   first-calm r (Success t) = tt
 
   second-calm : (timer : ℕ) (r : Record) (p : Phase) → OnYes CalmKept (secondRule timer r p)
-  unfolding secondRule anyFailure
+  unfolding secondRule anyResult
   second-calm timer r (Asked t) = tt
   second-calm timer r (Sounding t) = tt
   second-calm timer r (Reported t n) = tt
@@ -87,12 +87,12 @@ module _ (o : Configuration) (c : CarAddress) (exempt : Bool) (rs : List Record)
 
 calm-changed : (o : Configuration) (st : State) (rs : List Record) (c : CarAddress) (w : Checked Change) → OnYes (λ (x : Change). anyFailure (framesTo o c (x .replies)) ≡ false) w
     → anyFailure (framesOf (outcomeOf (andThen w (λ (x : Change). yes (changed o st rs c x))))) ≡ false
-unfolding anyFailure
+unfolding anyResult
 calm-changed o st rs c (no n) h = refl
 calm-changed o st rs c (yes x) h = h
 
 calm-state : (o : Configuration) (st : State) (rs : List Record) (c : CarAddress) (m : Request) → validatesIn m ≡ true → anyValidates rs ≡ false → anyFailure (framesOf (outcomeOf (stateRule o st rs c m))) ≡ false
-unfolding stateRule anyFailure
+unfolding stateRule anyResult
 calm-state o Unmatched rs c m v e = refl
 calm-state o (Matching a) rs c (forRecord m) v e = calm-changed o (Matching a) rs c (changeRule (o .edition) c m a (freePlaces rs) (firstResult (o .exempt) rs) (mine c rs)) (change-calm o c (o .exempt) rs e m a (freePlaces rs) (mine c rs) v)
 calm-state o (Matching a) rs c (matchReq run x y) v e = clash true refl (sym v)
@@ -106,7 +106,7 @@ calm-state o (Matched d) rs c (mapReq n) v e = clash true refl (sym v)
 
 calm-frame : (e : Edition) (o : Configuration) (i : Inner) (s : List ℕ) (w : Checked Received) → OnYes (FrameAs e s) w → isRead validateReq (readRules e s) ≡ true → anyValidates (i .records) ≡ false
     → anyFailure (framesOf (outcomeOf (frameRule o i w))) ≡ false
-unfolding anyFailure
+unfolding anyResult
 calm-frame e o i s (no n) t k f = refl
 calm-frame e o i s (yes y) t k f = calm-state o (i .state) (i .records) (y .car) (y .request) (sym (t .validating) ∙ k) f
 

@@ -17,7 +17,7 @@ use Rattle.rules.specs.Constants.{failureResult}
 use Rattle.rules.specs.Records.{sameCar, isHeld, holds, mine, noneHeld}
 use Rattle.rules.specs.Replies.{confirmation, frameTo, framesTo}
 use Rattle.rules.specs.Validation.{validates, isValidating, anyValidates, firstResult}
-use Rattle.rules.specs.Demand3.{anyFailure}
+use Rattle.rules.specs.Demand3.{anyResult, anyFailure}
 use Rattle.ends.proofs.Logic.{split, no-cons, or-left, or-right}
 use Rattle.ends.proofs.ListLaws.{only-yes, only-no, only-within, only-parts, only-permuted, permuted-length}
 use Rattle.rules.proofs.RecordLaws.{same-swap, holds-own, holds-free, holds-other, not-same, same-held}
@@ -96,11 +96,11 @@ module _ (c : CarAddress) where
 
 -- CNF 03 has the result 03
 pub fails : (o : Configuration) (c : CarAddress) → anyFailure (framesTo o c (confirmation 0 failureResult ∷ [])) ≡ true
-unfolding anyFailure value bytes lowBytes frameTo writing.frame
+unfolding anyResult value bytes lowBytes frameTo writing.frame
 fails o c = refl
 
 -- CNF 01 and 04 have not
 pub fails-not : (o : Configuration) (c : CarAddress) (exempt : Bool) (rs : List Record) → anyValidates rs ≡ false → anyFailure (framesTo o c (confirmation 0 (firstResult exempt rs) ∷ [])) ≡ false
-unfolding anyFailure value bytes lowBytes frameTo writing.frame firstResult
+unfolding anyResult value bytes lowBytes frameTo writing.frame firstResult
 fails-not o c true rs e = refl
 fails-not o c false rs e = rw e

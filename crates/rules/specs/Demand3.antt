@@ -82,10 +82,14 @@ module _ (e : Edition) where
   unfoldable pub isOwnAccepted : CarAddress → Kind → Call → Outcome → Bool
   isOwnAccepted c k x u = isKind k x && isCar c (named x) && accepted u
 
--- some of these frames, each a VALIDATE.CNF, has the result 03: it stands in the third octet behind the head
-unfoldable pub anyFailure : List (List ℕ) → Bool
-anyFailure [] = false
-anyFailure (f ∷ fs) = eqb (value f (size head + 2) 1) failureResult || anyFailure fs
+-- some of these frames, each a VALIDATE.CNF, has this result: it stands in the third octet behind the head
+unfoldable pub anyResult : ℕ → List (List ℕ) → Bool
+anyResult result [] = false
+anyResult result (f ∷ fs) = eqb (value f (size head + 2) 1) result || anyResult result fs
+
+-- some has the result 03
+abbrev pub anyFailure : List (List ℕ) → Bool
+anyFailure fs = anyResult failureResult fs
 
 -- "a reply to a car: a frame that a call reports with it as destination"
 unfoldable pub isTo : CarAddress → List ℕ → Bool

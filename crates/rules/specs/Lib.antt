@@ -18,4 +18,5 @@ pub mod Answers
 pub mod Numbers
 pub mod Cases
 pub mod Demand3
+pub mod HoldTime
 pub mod Exceptions
