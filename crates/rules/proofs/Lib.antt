@@ -28,6 +28,9 @@ pub mod AnswerLaws
 pub mod Refusals
 pub mod SpreadLaws
 pub mod ReachableHolds
+pub mod TimeLeft
+pub mod HoldSteps
+pub mod HoldTimeHolds
 pub mod IndexLaws
 pub mod ConfigureLaws
 pub mod NearestHolds

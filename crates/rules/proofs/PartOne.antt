@@ -43,7 +43,7 @@ module _ (e : Edition) (c : CarAddress) (s : List ℕ) (room : ℕ) (y : Receive
   unfolding named isOther
   is-other = rw (t .car)
 
-  is-car : isCar c (named e (frame s room)) ≡ sameCar c (y .car)
+  pub is-car : isCar c (named e (frame s room)) ≡ sameCar c (y .car)
   unfolding named isCar
   is-car = rw (t .car)
 
@@ -51,11 +51,11 @@ module _ (e : Edition) (c : CarAddress) (s : List ℕ) (room : ℕ) (y : Receive
   unfolding isKind
   is-match = t .matching
 
-  is-ask : isKind e slacParmReq (frame s room) ≡ asksIn (y .request)
+  pub is-ask : isKind e slacParmReq (frame s room) ≡ asksIn (y .request)
   unfolding isKind
   is-ask = t .asking
 
-  is-validate : isKind e validateReq (frame s room) ≡ validatesIn (y .request)
+  pub is-validate : isKind e validateReq (frame s room) ≡ validatesIn (y .request)
   unfolding isKind
   is-validate = t .validating
 
@@ -65,7 +65,7 @@ module _ (e : Edition) (c : CarAddress) (s : List ℕ) (room : ℕ) (y : Receive
   lasts-match u g = ap (λ q. q && accepted u) (sym is-match) ∙ or-left _ _ (or-left _ _ g)
 
   -- said of car c's own requests
-  own-part : (k b : Bool) → sameCar c (y .car) ≡ true → k && isCar c (named e (frame s room)) && b ≡ false → k && b ≡ false
+  pub own-part : (k b : Bool) → sameCar c (y .car) ≡ true → k && isCar c (named e (frame s room)) && b ≡ false → k && b ≡ false
   own-part k b p g = sym (rw (is-car, p) (ap (λ q. q && b) (and-true k))) ∙ g
 
   lasts-ask : (u : Outcome) → sameCar c (y .car) ≡ true → ends e c (frame s room) u ≡ false → asksIn (y .request) && isTen u ≡ false

@@ -217,13 +217,13 @@ configured-reachable a m nid nmk exempt e carriers =
     record { one = λ c. one-record a m nid nmk exempt e carriers [] c; held = h; validating = omega (arith, free-busy rs h); unplugged = λ p. refl; bad = λ g. refl; ordered = all-ordered rs (wide-free recordCount) }
 
 -- reachable, and what the order of each group's values rests on
-abbrev Reaches : Station → Type 0
+abbrev pub Reaches : Station → Type 0
 Reaches s = Reachable s × All Wide (s .records)
 
-reaches-next : (s : Station) (x : Call) → Reaches s → Reaches (step s x)
+pub reaches-next : (s : Station) (x : Call) → Reaches s → Reaches (step s x)
 reaches-next s x h = let w = step-wide s x (h .1) in (step-reaches s x (h .0) w, w)
 
-configured-reaches : (a : StationAddress) (m : ModemAddress) (nid : Nid) (nmk : Nmk) (exempt : Bool) (e : Edition) (carriers : ℕ) → Reaches (configured a m nid nmk exempt e carriers)
+pub configured-reaches : (a : StationAddress) (m : ModemAddress) (nid : Nid) (nmk : Nmk) (exempt : Bool) (e : Edition) (carriers : ℕ) → Reaches (configured a m nid nmk exempt e carriers)
 unfolding configured
 configured-reaches a m nid nmk exempt e carriers = (configured-reachable a m nid nmk exempt e carriers, wide-free recordCount)
 

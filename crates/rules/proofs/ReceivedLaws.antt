@@ -236,7 +236,7 @@ pub admitted-octets : (e : Edition) (o : Configuration) (room : ℕ) (s : List �
 admitted-octets e o room s h = admitted-values (CountedValues e) (λ (t : ℕ). t < 256) (λ (a b : List ℕ). IsId e a × IsId e b) e o room s
     (λ m q. (
       λ k. record { count = count-right e s m q k; octets = of-read OctetMessage (readRules e s) (read-octets e s h) m q; past = past-profile e s m q k },
-      (λ v. timer-right e s m q, λ v. ids-right e s m h q v)
+      (λ v. timer-right e s m q, λ v. ids-right e s m h q v),
     ))
 
 -- a profile has a value for each group

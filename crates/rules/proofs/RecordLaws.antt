@@ -214,7 +214,7 @@ pub tick-keeping : (b : Bool) (e : ℕ) → Keeping (tickRecord b e)
 unfolding tickRecord
 tick-keeping b e c r h = split (isHeld r) (λ g. rw g (tick-no c r (tickPhase b e r (r .phase)) (not-same c r g h))) (λ g. rw g h)
 
-phase-holds : (c : CarAddress) (p : Phase) (r : Record) → holds c (inPhase p r) ≡ holds c r
+pub phase-holds : (c : CarAddress) (p : Phase) (r : Record) → holds c (inPhase p r) ≡ holds c r
 unfolding holds isHeld inPhase
 phase-holds c p r = refl
 

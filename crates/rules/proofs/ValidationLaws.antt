@@ -1,4 +1,4 @@
--- Laws of validation: how many records are ready or counting, what a first validate request is answered, and which answers are 03 in octets.
+-- Laws of validation: how many records are ready or counting, what a first validate request is answered, and which answers are 03 or 01 in octets.
 use Prim.Native.Nat.{ℕ, suc, _≤_}
 use mathlib.Core.Path.{_≡_, refl, sym, _∙_, ap}
 use mathlib.Core.Bool.{Bool, true, false, _||_}
@@ -13,7 +13,7 @@ use Rattle.messages.specs.Writing as writing
 use Rattle.rules.specs.declared.Configuration.{Configuration}
 use Rattle.rules.specs.declared.Record.{Record}
 use Rattle.ends.specs.Lists.{only}
-use Rattle.rules.specs.Constants.{failureResult}
+use Rattle.rules.specs.Constants.{readyResult, failureResult}
 use Rattle.rules.specs.Records.{sameCar, isHeld, holds, mine, noneHeld}
 use Rattle.rules.specs.Replies.{confirmation, frameTo, framesTo}
 use Rattle.rules.specs.Validation.{validates, isValidating, anyValidates, firstResult}
@@ -104,3 +104,8 @@ pub fails-not : (o : Configuration) (c : CarAddress) (exempt : Bool) (rs : List 
 unfolding anyResult value bytes lowBytes frameTo writing.frame firstResult
 fails-not o c true rs e = refl
 fails-not o c false rs e = rw e
+
+-- CNF 01 has the result 01
+pub tells-ready : (o : Configuration) (c : CarAddress) → anyResult readyResult (framesTo o c (confirmation 0 readyResult ∷ [])) ≡ true
+unfolding anyResult value bytes lowBytes frameTo writing.frame
+tells-ready o c = refl
