@@ -31,6 +31,7 @@ pub mod ReachableHolds
 pub mod TimeLeft
 pub mod HoldSteps
 pub mod HoldTimeHolds
+pub mod HoldExamplesHold
 pub mod IndexLaws
 pub mod ConfigureLaws
 pub mod NearestHolds

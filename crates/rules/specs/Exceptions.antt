@@ -5,6 +5,7 @@ use mathlib.Core.Bool.{true, false}
 use mathlib.Core.List.{List, [], _∷_}
 use lib.ListN.{length, replicate}
 use Rattle.messages.specs.declared.CarAddress.{CarAddress}
+use Rattle.messages.specs.declared.Edition.{Edition}
 use Rattle.messages.specs.declared.Edition.the-variants.{Iso}
 use Rattle.messages.specs.Table.{Message, slacParmReq, startAttenCharInd, attenCharRsp, validateReq, slacMatchReq, attenProfileInd, broadcast, groupCount, isoAttempt}
 use Rattle.messages.specs.Reading.{no, noId}
@@ -20,35 +21,38 @@ use Rattle.rules.specs.Demand3.{without, accepted, anyFailure, ends, rep
 
 -- ---- a station, its cars and their frames
 
--- a well configured station
+-- a well configured station in an edition
+abbrev pub stationIn : Edition → Station
+stationIn e = configured (record { 0 = 0x0200000000AA }) (record { 0 = 0x0200000000BB }) (record { 0 = 5 }) (record { 0 = 1; 1 = 2 }) false e 1
+
 abbrev station : Station
-station = configured (record { 0 = 0x0200000000AA }) (record { 0 = 0x0200000000BB }) (record { 0 = 5 }) (record { 0 = 1; 1 = 2 }) false Iso 1
+station = stationIn Iso
 
 -- some cars
-abbrev car : ℕ → CarAddress
+abbrev pub car : ℕ → CarAddress
 car n = record { 0 = 0x020000000000 + n }
 
 -- a message as a frame call
-abbrev sent : Message → Call
+abbrev pub sent : Message → Call
 sent m = frame (writing.frame m) leastOutput
 
 -- PARM.REQ, START, PROFILE, RSP and MATCH.REQ of car n, in run 1, and its first VALIDATE.REQ
-abbrev request : ℕ → Call
+abbrev pub request : ℕ → Call
 request n = sent (record { edition = Iso; kind = slacParmReq; count = 0; dst = broadcast; src = car n .0; values = (1, tt) })
 
 abbrev start : ℕ → Call
 start n = sent (record { edition = Iso; kind = startAttenCharInd; count = 0; dst = broadcast; src = car n .0; values = (isoAttempt, (1, tt)) })
 
-abbrev profile : ℕ → Call
+abbrev pub profile : ℕ → Call
 profile n = sent (record { edition = Iso; kind = attenProfileInd; count = groupCount; dst = 0x0200000000AA; src = 0x0200000000BB; values = (car n .0, (replicate groupCount 10, tt)) })
 
-abbrev response : ℕ → Call
+abbrev pub response : ℕ → Call
 response n = sent (record { edition = Iso; kind = attenCharRsp; count = 0; dst = 0x0200000000AA; src = car n .0; values = (1, (noId, (noId, tt))) })
 
 abbrev matching : ℕ → Call
 matching n = sent (record { edition = Iso; kind = slacMatchReq; count = 0; dst = 0x0200000000AA; src = car n .0; values = (noId, (noId, (1, tt))) })
 
-abbrev validate : ℕ → Call
+abbrev pub validate : ℕ → Call
 validate n = sent (record { edition = Iso; kind = validateReq; count = 0; dst = 0x0200000000AA; src = car n .0; values = (0, tt) })
 
 -- requests of n other cars

@@ -20,3 +20,4 @@ pub mod Cases
 pub mod Demand3
 pub mod HoldTime
 pub mod Exceptions
+pub mod HoldExamples
