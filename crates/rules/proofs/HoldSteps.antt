@@ -122,6 +122,9 @@ module _ (ed : Edition) (v : Bool) (e : ℕ) where
   change-starts c validateFirst a free result own h = clash false h refl
   change-starts c (validateSecond timer) a free result own h = clash false h refl
 
+all-three : (a b d : Bool) → a && b && d ≡ true → (a ≡ true) × (b ≡ true) × (d ≡ true)
+all-three a b d h = let k : a && b ≡ true = and-left (a && b) d h in (and-left a b k, and-right a b k, and-right (a && b) d h)
+
 module _ (v : Bool) (e : ℕ) where
   -- in a station of this configuration that had these records
   abbrev StartedIn : Configuration → CarAddress → List Record → List Record → Type 0
@@ -141,9 +144,6 @@ module _ (v : Bool) (e : ℕ) where
   state-starts o (Matched d) rs c (forRecord m) h = tt
   state-starts o (Matched d) rs c (matchReq run x y) h = tt
   state-starts o (Matched d) rs c (mapReq n) h = clash false h refl
-
-  all-three : (a b d : Bool) → a && b && d ≡ true → (a ≡ true) × (b ≡ true) × (d ≡ true)
-  all-three a b d h = let k : a && b ≡ true = and-left (a && b) d h in (and-left a b k, and-right a b k, and-right (a && b) d h)
 
   frame-starts : (c : CarAddress) (o : Configuration) (i : Inner) (f : List ℕ) (room : ℕ) (w : Checked Received) → OnYes (FrameAs (o .edition) f) w
       → isKind (o .edition) slacParmReq (frame f room) && isCar c (named (o .edition) (frame f room)) && accepted (outcomeOf (frameRule o i w)) ≡ true

@@ -247,7 +247,7 @@ module _ (e : Edition) (b : Bool) (d : ℕ) (r : Record) (f : Fit e r) where
       split (leb t d)
       (λ a. rw a (split (eqb n 0)
       (λ b. rw b tt)
-      (λ b. rw b (fit-phase e r f (Reported reportedTime (n - 1)) ((omega arith, omega arith), (omega arith, h .1 .1))))))
+      (λ b. rw b (fit-phase e r f (Reported reportedTime _) ((omega arith, omega arith), (omega arith, h .1 .1))))))
       (λ a. rw a (fit-phase e r f (Reported (t - d) n) (left t _ (h .0) a, h .1)))
   tick-fit (Awaiting t) q =
       let h = in-phase e r f (Awaiting t) q in

@@ -113,7 +113,7 @@ module _ (e : Edition) (room : ℕ) (r : Record) where
 
   first-light : (result : ℕ) → (result ≡ readyResult → 0 < room) → OnYes (OfKept Light) (firstRule result r (r .phase))
   unfolding answered inPhase validates
-  first-light result h = on-first (OfKept Light) e r result (r .phase) (λ t q. on-cond Light (eqb result readyResult) _ r (λ a. omega (arith, h (eqb-true result readyResult a))) (λ a. omega arith))
+  first-light result h = on-first (OfKept Light) e r result (r .phase) (λ t q. on-cond Light (eqb result readyResult) _ _ (λ a. omega (arith, h (eqb-true result readyResult a))) (λ a. omega arith))
 
   second-light : (timer : ℕ) → OnYes (OfKept Light) (secondRule timer r (r .phase))
   unfolding inPhase validates

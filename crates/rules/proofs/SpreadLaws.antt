@@ -147,7 +147,7 @@ module _ (b : Bool) (e : ℕ) (r : Record) (w : Wide r) where
   unfolding tickPhase
   tick-wide (Asked t) = fires-wide t runsOut _ tt
   tick-wide (Sounding t) = fires-wide t _ _ (again-wide (r .profiles) retryCount)
-  tick-wide (Reported t n) = fires-wide t _ _ (again-wide n (n - 1))
+  tick-wide (Reported t n) = fires-wide t _ _ (again-wide n _)
   tick-wide (Awaiting t) = fires-wide t runsOut _ tt
   tick-wide (Ready t) = fires-wide t runsOut _ tt
   tick-wide (Counting t k g) = fires-wide t _ _ (window-wide b k)

@@ -162,17 +162,25 @@ module _ (ed : Edition) (v : Bool) (e : ℕ) (r : Record) (h : Live r) where
   pub first-lower : (o : Configuration) (c : CarAddress) (result : ℕ) → OnYes (λ (k : Kept). Unready v o c (k .replies) → Left (k .kept)) (firstRule result r (r .phase))
   unfolding answered inPhase
   first-lower o c result = on-first (λ (k : Kept). Unready v o c (k .replies) → Left (k .kept)) ed r result (r .phase)
-      (λ t q n. on-cond Left (eqb result readyResult) _ r
+      (λ t q n. on-cond Left (eqb result readyResult) _ _
       (λ a. split v
       (λ b. let z : addedHold v e ≡ addedHold true e = ap (λ (x : Bool). addedHold x e) b in (omega arith, omega (arith, left-in (Awaiting t) q)))
       (λ b. clash (anyResult readyResult (framesTo o c (confirmation 0 result ∷ []))) (ap (λ (k : ℕ). anyResult readyResult (framesTo o c (confirmation 0 k ∷ []))) (eqb-true result readyResult a) ∙ tells-ready o c) (n b)))
-      (λ a. same-left ed v e r h))
+      (λ a. (omega (arith, h), omega (arith, left-in (Awaiting t) q))))
 
   pub second-lower : (timer : ℕ) → timer < windowCount → OnYes (OfKept Left) (secondRule timer r (r .phase))
   unfolding inPhase
   second-lower timer k = on-second (OfKept Left) ed r timer (r .phase) (λ t q. (omega arith, omega (arith, left-in (Ready t) q)))
 
 -- ---- a tick of d milliseconds, and a pilot change, at a held record
+
+-- one retry less
+one-less : (n x : ℕ) → (n ≡ 0 → ⊥) → n * x ≡ (n - 1) * x + x
+one-less zero x h = absurd (h refl)
+one-less (suc n) x h = rw (suc-mul, pred-suc n)
+  where
+    pred-suc : (k : ℕ) → suc k - 1 ≡ k
+    pred-suc k = omega arith
 
 module _ (ed : Edition) (v : Bool) (e : ℕ) where
   -- from the phase p of a first or a later try to what the tick leaves
@@ -182,14 +190,6 @@ module _ (ed : Edition) (v : Bool) (e : ℕ) where
 
   abbrev pub TickLower : ℕ → Record → Ticked → Type 0
   TickLower d r x = Ticks d (r .later) (r .phase) x
-
-  -- one retry less
-  one-less : (n x : ℕ) → (n ≡ 0 → ⊥) → n * x ≡ (n - 1) * x + x
-  one-less zero x h = absurd (h refl)
-  one-less (suc n) x h = rw (suc-mul, pred-suc n)
-    where
-      pred-suc : (k : ℕ) → suc k - 1 ≡ k
-      pred-suc k = omega arith
 
   module _ (d : ℕ) (r : Record) (k : d ≤ e) where
     -- a window that is over
