@@ -382,13 +382,13 @@ module _ (v : Bool) (e : ℕ) (c : CarAddress) (o : Configuration) where
   state-falls (Matched b) rs d (mapReq n) h q u = on-map (After (o .edition) v e c 0 rs) o b rs d n (falls-same (o .edition) v e (mine c rs) h)
 
   -- a frame's words, said of what was received
-  abbrev Asked : List ℕ → ℕ → Outcome → Bool
-  Asked f room u = isKind (o .edition) slacParmReq (frame f room) && isCar c (named (o .edition) (frame f room)) && accepted u
+  abbrev ownAsk : List ℕ → ℕ → Outcome → Bool
+  ownAsk f room u = isKind (o .edition) slacParmReq (frame f room) && isCar c (named (o .edition) (frame f room)) && accepted u
 
-  abbrev Readied : List ℕ → ℕ → Outcome → Bool
-  Readied f room u = isKind (o .edition) validateReq (frame f room) && isCar c (named (o .edition) (frame f room)) && anyResult readyResult (framesOf u)
+  abbrev ownReadied : List ℕ → ℕ → Outcome → Bool
+  ownReadied f room u = isKind (o .edition) validateReq (frame f room) && isCar c (named (o .edition) (frame f room)) && anyResult readyResult (framesOf u)
 
-  quiet-read : (f : List ℕ) (room : ℕ) (y : Received) → FrameAs (o .edition) f y → (u : Outcome) → Asked f room u ≡ false → (v ≡ false → Readied f room u ≡ false) → QuietRequest (y .car) (y .request) u
+  quiet-read : (f : List ℕ) (room : ℕ) (y : Received) → FrameAs (o .edition) f y → (u : Outcome) → ownAsk f room u ≡ false → (v ≡ false → ownReadied f room u ≡ false) → QuietRequest (y .car) (y .request) u
   quiet-read f room y t u a b = record {
     unasked = λ p. ap (λ (x : Bool). x && accepted u) (sym (is-ask (o .edition) c f room y t)) ∙ own-part (o .edition) c f room y t (isKind (o .edition) slacParmReq (frame f room)) (accepted u) p a;
     unready = λ p n. ap (λ (x : Bool). x && anyResult readyResult (framesOf u)) (sym (is-validate (o .edition) c f room y t))
@@ -396,7 +396,7 @@ module _ (v : Bool) (e : ℕ) (c : CarAddress) (o : Configuration) where
   }
 
   frame-falls : (i : Inner) (f : List ℕ) (room : ℕ) (w : Checked Received) → OnYes (FrameAs (o .edition) f) w → OnYes (λ (y : Received). TimedRequest (y .request)) w → Fit (mine c (i .records))
-      → Asked f room (outcomeOf (frameRule o i w)) ≡ false → (v ≡ false → Readied f room (outcomeOf (frameRule o i w)) ≡ false)
+      → ownAsk f room (outcomeOf (frameRule o i w)) ≡ false → (v ≡ false → ownReadied f room (outcomeOf (frameRule o i w)) ≡ false)
       → Falls (o .edition) v e 0 (mine c (i .records)) (mine c (next i (frameRule o i w) .records))
   frame-falls i f room (no n) t q h a b = falls-same (o .edition) v e (mine c (i .records)) h
   frame-falls i f room (yes y) t q h a b =

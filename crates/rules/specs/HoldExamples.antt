@@ -73,7 +73,7 @@ abbrev limit : Edition → List Call → List Act → ℕ
 limit e before acts = longestHold e (isHolder (car 1) (after (stationIn e) before)) (anyReadied (car 1) (asked e before) (toTheEnd acts)) second
 
 -- the car still holds its record, and one more tick frees it, so many milliseconds short of the limits
-pub record Near (e : Edition) (before : List Call) (acts : List Act) (short : ℕ) : Type 0 where
+pub record NearLimit (e : Edition) (before : List Call) (acts : List Act) (short : ℕ) : Type 0 where
   pub asks-first : asks (car 1) (after (stationIn e) before) (request 1) ≡ true
   pub unasked : Unasked (car 1) second (asked e before) (toTheEnd acts)
   pub still-held : length (mine (car 1) (after (asked e before) (play 0 acts) .records)) ≡ 1
@@ -89,7 +89,7 @@ pub record HoldExamples : Type 0 where
   pub later-time : tryTime Sae true ≡ 12000
   pub validation-time : validatingTime ≡ 36000
   -- 1 ms short for each of the times that pass
-  pub iso : Near Iso (pilot B 0 ∷ []) (slow Iso false) 6
-  pub sae-first : Near Sae (pilot B 0 ∷ []) (slow Sae false) 6
-  pub sae-later : Near Sae (pilot B 0 ∷ request 1 ∷ []) (slow Sae true) 6
-  pub validated : Near Iso (pilot B 0 ∷ []) slower 9
+  pub iso : NearLimit Iso (pilot B 0 ∷ []) (slow Iso false) 6
+  pub sae-first : NearLimit Sae (pilot B 0 ∷ []) (slow Sae false) 6
+  pub sae-later : NearLimit Sae (pilot B 0 ∷ request 1 ∷ []) (slow Sae true) 6
+  pub validated : NearLimit Iso (pilot B 0 ∷ []) slower 9
