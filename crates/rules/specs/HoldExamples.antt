@@ -1,4 +1,4 @@
--- How near a car comes to the longest hold, and that HoldTime's calls are not none: computed examples, with ticks of up to a second.
+-- How near a car comes to the longest hold, and that HoldTime's calls are not none: computed examples, here with ticks of up to a second, in crate `hold_examples` with one each millisecond.
 use Prim.Native.Nat.{ℕ, zero, suc, _+_, _*_, _-_, _/_}
 use mathlib.Core.Path.{_≡_}
 use mathlib.Core.Bool.{Bool, true, false}
@@ -16,10 +16,6 @@ use Rattle.rules.specs.Rules.{step, after}
 use Rattle.rules.specs.HoldTime.{asks, isHolder, anyReadied, Unasked, ticked, heldFor, tryTime, validatingTime, longestHold}
 use Rattle.rules.specs.Exceptions.{stationIn, car, sent, request, profile, response, validate}
 
--- the longest tick
-abbrev pub second : ℕ
-second = 1000
-
 -- ---- what a car does
 
 -- a call at once; 1 ms less than a time; or the longest tick, with which the time fires late
@@ -28,17 +24,22 @@ pub data Act : Type 0 where
   almost : ℕ → Act
   late : Act
 
--- so many of the longest ticks from reading t on
-abbrev seconds : ℕ → ℕ → List Call
-seconds t zero = []
-seconds t (suc n) = tick (t + second) leastOutput ∷ seconds (t + second) n
+module _ (e : ℕ) where
+  -- so many ticks of the longest span e from reading t on
+  abbrev longTicks : ℕ → ℕ → List Call
+  longTicks t zero = []
+  longTicks t (suc n) = tick (t + e) leastOutput ∷ longTicks (t + e) n
 
--- the calls from reading t on
-abbrev play : ℕ → List Act → List Call
-play t [] = []
-play t (call x ∷ xs) = x ∷ play t xs
-play t (almost d ∷ xs) = seconds t ((d - 1) / second) ++ (tick (t + (d - 1)) leastOutput ∷ play (t + (d - 1)) xs)
-play t (late ∷ xs) = tick (t + second) leastOutput ∷ play (t + second) xs
+  -- the calls from reading t on
+  abbrev pub play : ℕ → List Act → List Call
+  play t [] = []
+  play t (call x ∷ xs) = x ∷ play t xs
+  play t (almost d ∷ xs) = longTicks t ((d - 1) / e) ++ (tick (t + (d - 1)) leastOutput ∷ play (t + (d - 1)) xs)
+  play t (late ∷ xs) = tick (t + e) leastOutput ∷ play (t + e) xs
+
+  -- what the car does, and then the longest tick
+  abbrev pub toTheEnd : List Act → List Call
+  toTheEnd acts = play 0 (acts ++ (late ∷ []))
 
 -- START of car 1 in a try, and its second VALIDATE.REQ with the longest window
 abbrev startIn : Edition → Bool → Call
@@ -64,22 +65,15 @@ slower = slow Iso false ++ (call (validate 1) ∷ almost readyTime ∷ call vali
 abbrev pub asked : Edition → List Call → Station
 asked e before = step (after (stationIn e) before) (request 1)
 
--- what the car does, and then the longest tick
-abbrev pub toTheEnd : List Act → List Call
-toTheEnd acts = play 0 (acts ++ (late ∷ []))
-
--- the limit of what the car does
-abbrev limit : Edition → List Call → List Act → ℕ
-limit e before acts = longestHold e (isHolder (car 1) (after (stationIn e) before)) (anyReadied (car 1) (asked e before) (toTheEnd acts)) second
-
--- the car still holds its record, and one more tick frees it, so many milliseconds short of the limits
-pub record NearLimit (e : Edition) (before : List Call) (acts : List Act) (short : ℕ) : Type 0 where
-  pub asks-first : asks (car 1) (after (stationIn e) before) (request 1) ≡ true
-  pub unasked : Unasked (car 1) second (asked e before) (toTheEnd acts)
-  pub still-held : length (mine (car 1) (after (asked e before) (play 0 acts) .records)) ≡ 1
-  pub so-far : ticked (asked e before) (play 0 acts) + second + short ≡ limit e before acts
-  pub is-freed : length (mine (car 1) (after (asked e before) (toTheEnd acts) .records)) ≡ 0
-  pub in-all : heldFor (car 1) (asked e before) (toTheEnd acts) + short ≡ limit e before acts
+-- the car still holds its record, and one more tick frees it, so many milliseconds short of the limits; a validate request of it was answered 01, or none
+pub record NearLimit (e : ℕ) (edition : Edition) (before : List Call) (acts : List Act) (readied : Bool) (short : ℕ) : Type 0 where
+  pub asks-first : asks (car 1) (after (stationIn edition) before) (request 1) ≡ true
+  pub unasked : Unasked (car 1) e (asked edition before) (toTheEnd e acts)
+  pub is-readied : anyReadied (car 1) (asked edition before) (toTheEnd e acts) ≡ readied
+  pub still-held : length (mine (car 1) (after (asked edition before) (play e 0 acts) .records)) ≡ 1
+  pub so-far : ticked (asked edition before) (play e 0 acts) + e + short ≡ longestHold edition (isHolder (car 1) (after (stationIn edition) before)) readied e
+  pub is-freed : length (mine (car 1) (after (asked edition before) (toTheEnd e acts) .records)) ≡ 0
+  pub in-all : heldFor (car 1) (asked edition before) (toTheEnd e acts) + short ≡ longestHold edition (isHolder (car 1) (after (stationIn edition) before)) readied e
 
 -- what comes out
 pub record HoldExamples : Type 0 where
@@ -88,8 +82,8 @@ pub record HoldExamples : Type 0 where
   pub first-time : tryTime Sae false ≡ 11200
   pub later-time : tryTime Sae true ≡ 12000
   pub validation-time : validatingTime ≡ 36000
-  -- 1 ms short for each of the times that pass
-  pub iso : NearLimit Iso (pilot B 0 ∷ []) (slow Iso false) 6
-  pub sae-first : NearLimit Sae (pilot B 0 ∷ []) (slow Sae false) 6
-  pub sae-later : NearLimit Sae (pilot B 0 ∷ request 1 ∷ []) (slow Sae true) 6
-  pub validated : NearLimit Iso (pilot B 0 ∷ []) slower 9
+  -- 1 ms short for each of the times that pass, with ticks of up to a second
+  pub iso : NearLimit 1000 Iso (pilot B 0 ∷ []) (slow Iso false) false 6
+  pub sae-first : NearLimit 1000 Sae (pilot B 0 ∷ []) (slow Sae false) false 6
+  pub sae-later : NearLimit 1000 Sae (pilot B 0 ∷ request 1 ∷ []) (slow Sae true) false 6
+  pub validated : NearLimit 1000 Iso (pilot B 0 ∷ []) slower true 9
