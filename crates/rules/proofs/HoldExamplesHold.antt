@@ -28,7 +28,7 @@ use Rattle.rules.specs.Rules.{freeRecord, configured, rule, takesReading
 use Rattle.rules.specs.Demand3.{named, isCar, accepted, isRead, isKind, isOwnAccepted, anyResult}
 use Rattle.rules.specs.HoldTime.{asks, isHolder, isReadied, anyReadied, spans, Unasked, ticked, heldFor}
 use Rattle.rules.specs.Exceptions.{car, request}
-use Rattle.rules.specs.HoldExamples.{slow, slower, asked, toTheEnd, HoldExamples}
+use Rattle.rules.specs.HoldExamples.{slow, slower, second, asked, toTheEnd, HoldExamples}
 
 -- "no PARM.REQ of c is accepted and no accepted tick spans more than e", as a test
 unfoldable pub isQuiet : CarAddress → ℕ → Station → List Call → Bool
@@ -49,8 +49,8 @@ hold-examples-hold = record {
   first-time = refl;
   later-time = refl;
   validation-time = refl;
-  iso = record { asks-first = refl; unasked = quiet (car 1) 1000 (asked Iso (pilot B 0 ∷ [])) (toTheEnd 1000 (slow Iso false)) refl; is-readied = refl; still-held = refl; so-far = refl; is-freed = refl; in-all = refl };
-  sae-first = record { asks-first = refl; unasked = quiet (car 1) 1000 (asked Sae (pilot B 0 ∷ [])) (toTheEnd 1000 (slow Sae false)) refl; is-readied = refl; still-held = refl; so-far = refl; is-freed = refl; in-all = refl };
-  sae-later = record { asks-first = refl; unasked = quiet (car 1) 1000 (asked Sae (pilot B 0 ∷ request 1 ∷ [])) (toTheEnd 1000 (slow Sae true)) refl; is-readied = refl; still-held = refl; so-far = refl; is-freed = refl; in-all = refl };
-  validated = record { asks-first = refl; unasked = quiet (car 1) 1000 (asked Iso (pilot B 0 ∷ [])) (toTheEnd 1000 slower) refl; is-readied = refl; still-held = refl; so-far = refl; is-freed = refl; in-all = refl };
+  iso = record { asks-first = refl; unasked = quiet (car 1) second (asked Iso (pilot B 0 ∷ [])) (toTheEnd second (slow Iso false)) refl; is-readied = refl; still-held = refl; so-far = refl; is-freed = refl; in-all = refl };
+  sae-first = record { asks-first = refl; unasked = quiet (car 1) second (asked Sae (pilot B 0 ∷ [])) (toTheEnd second (slow Sae false)) refl; is-readied = refl; still-held = refl; so-far = refl; is-freed = refl; in-all = refl };
+  sae-later = record { asks-first = refl; unasked = quiet (car 1) second (asked Sae (pilot B 0 ∷ request 1 ∷ [])) (toTheEnd second (slow Sae true)) refl; is-readied = refl; still-held = refl; so-far = refl; is-freed = refl; in-all = refl };
+  validated = record { asks-first = refl; unasked = quiet (car 1) second (asked Iso (pilot B 0 ∷ [])) (toTheEnd second slower) refl; is-readied = refl; still-held = refl; so-far = refl; is-freed = refl; in-all = refl };
 }

@@ -61,6 +61,10 @@ slower = slow Iso false ++ (call (validate 1) ∷ almost readyTime ∷ call vali
 
 -- ---- the examples
 
+-- the longest tick of these
+abbrev pub second : ℕ
+second = 1000
+
 -- the station of an edition after some calls and a request of car 1
 abbrev pub asked : Edition → List Call → Station
 asked e before = step (after (stationIn e) before) (request 1)
@@ -83,7 +87,7 @@ pub record HoldExamples : Type 0 where
   pub later-time : tryTime Sae true ≡ 12000
   pub validation-time : validatingTime ≡ 36000
   -- 1 ms short for each of the times that pass, with ticks of up to a second
-  pub iso : NearLimit 1000 Iso (pilot B 0 ∷ []) (slow Iso false) false 6
-  pub sae-first : NearLimit 1000 Sae (pilot B 0 ∷ []) (slow Sae false) false 6
-  pub sae-later : NearLimit 1000 Sae (pilot B 0 ∷ request 1 ∷ []) (slow Sae true) false 6
-  pub validated : NearLimit 1000 Iso (pilot B 0 ∷ []) slower true 9
+  pub iso : NearLimit second Iso (pilot B 0 ∷ []) (slow Iso false) false 6
+  pub sae-first : NearLimit second Sae (pilot B 0 ∷ []) (slow Sae false) false 6
+  pub sae-later : NearLimit second Sae (pilot B 0 ∷ request 1 ∷ []) (slow Sae true) false 6
+  pub validated : NearLimit second Iso (pilot B 0 ∷ []) slower true 9

@@ -32,14 +32,14 @@ returns c =
     let a = c .before .before .before .before .before .before .before .before .before .before .args in
     let h = c .before .before .before .before .before .answer .given in
     let t = c .before .before .before .before .before .before .before .before .is-addressed in
-    written (ampMapCnf (a .receiver .0) (a .sender .0) (resultOf (a .success))) (a .out .now) (t .result) true 60 (t .ensures) (result-limited (a .success)) refl (h .0 .0) _ (sym (ap writtenOf (h .1)) ∙ c .before .before .before .before .before .before .before .judge .ensures) (c .before .before .put-cnf .ensures)
+    written (ampMapCnf (a .receiver .0) (a .sender .0) (resultOf (a .success))) (a .out .now) (t .result) true _ (t .ensures) (result-limited (a .success)) refl (h .0 .0) _ (sym (ap writtenOf (h .1)) ∙ c .before .before .before .before .before .before .before .judge .ensures) (c .before .before .put-cnf .ensures)
 
 returns-2 : tie.Need-returns-2
 returns-2 c =
     let a = c .before .before .before .before .before .before .args in
     let h = c .before .answer2 .given in
     let t = c .before .before .before .before .is-addressed in
-    refused (ampMapCnf (a .receiver .0) (a .sender .0) (resultOf (a .success))) (a .out .now) (t .result) true 60 (t .ensures) (result-limited (a .success)) refl (numberOf (h .0 .0)) (sym (ap writtenOf (h .1)) ∙ c .before .before .before .judge .ensures)
+    refused (ampMapCnf (a .receiver .0) (a .sender .0) (resultOf (a .success))) (a .out .now) (t .result) true _ (t .ensures) (result-limited (a .success)) refl (numberOf (h .0 .0)) (sym (ap writtenOf (h .1)) ∙ c .before .before .before .judge .ensures)
 
 pub write-cnf-spec : {M : Type 1} → statement M
 write-cnf-spec =
