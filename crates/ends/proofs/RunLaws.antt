@@ -5,7 +5,7 @@ use mathlib.Core.List.{List, [], _∷_, _++_, map, zipWith}
 use native.Mathlib.Omega.{arith}
 use native.Mathlib.Nat.{add-zero, add-suc, mul-zero, mul-suc, add-comm}
 use lib.ListN.{length, getD, take, drop, set, length-drop, List·getD-append}
-use lib.Seq.{sets, sets-eq, take-at, drop-at, take-set-le, drop-set-add, drop-drop, getD-set-other}
+use lib.Seq.{sets, sets-eq, take-at, drop-at, take-set-le, drop-set-lt, drop-set-add, drop-drop, getD-set-other, getD-drop}
 use Rattle.ends.specs.Words.{runs}
 
 module _ {A : Type 0} where
@@ -29,6 +29,11 @@ module _ {A : Type 0} where
   getD-before [] l i k d h = refl
   getD-before (a ∷ vs) l i k d h = getD-before vs (set l i a) (suc i) k d (omega arith) ∙ getD-set-other l i k a d (λ (e : k ≡ i). omega arith)
 
+  -- and so does what stands behind it
+  pub drop-behind : (vs l : List A) (i n : ℕ) → i + length vs ≤ n → drop n (sets l i vs) ≡ drop n l
+  drop-behind [] l i n h = refl
+  drop-behind (a ∷ vs) l i n h = drop-behind vs (set l i a) (suc i) n (omega arith) ∙ drop-set-lt n l i a (omega arith)
+
   -- from the first element on
   sets-front : (vs l : List A) → length vs ≤ length l → sets l 0 vs ≡ vs ++ drop (length vs) l
   sets-front vs l h = sets-eq vs l 0 (omega arith) ∙ ap (λ (k : ℕ). vs ++ drop k l) (add-comm 0 (length vs) ∙ add-zero (length vs))
@@ -36,6 +41,14 @@ module _ {A : Type 0} where
   -- what was stored from the first element on
   pub getD-front : (vs l : List A) (k : ℕ) (d : A) → length vs ≤ length l → k < length vs → getD (sets l 0 vs) k d ≡ getD vs k d
   getD-front vs l k d h b = ap (λ (m : List A). getD m k d) (sets-front vs l h) ∙ List·getD-append vs (drop (length vs) l) d k b
+
+  -- from any element on
+  pub getD-stored : (vs l : List A) (i k : ℕ) (d : A) → i + length vs ≤ length l → k < length vs → getD (sets l i vs) (i + k) d ≡ getD vs k d
+  getD-stored vs l i k d h b =
+      sym (getD-drop i (sets l i vs) k d)
+      ∙ ap (λ (j : ℕ). getD (drop i (sets l j vs)) k d) (sym (add-zero i))
+      ∙ ap (λ (m : List A). getD m k d) (drop-sets vs l i 0)
+      ∙ getD-front vs (drop i l) k d (omega (arith, length-drop i l)) b
 
   -- ---- runs
 

@@ -1,5 +1,5 @@
 -- The head's words and the whole station: a station's own words are that station.
-use Prim.Native.Nat.{ℕ, _*_, _^_, _≤_, _<_, _%_}
+use Prim.Native.Nat.{ℕ, _+_, _*_, _^_, _≤_, _<_, _%_}
 use mathlib.Core.Path.{_≡_, refl, sym, ap, ap₂, subst, _∙_}
 use mathlib.Core.Bool.{true, _&&_}
 use mathlib.Core.List.{List, zipWith}
@@ -7,7 +7,7 @@ use native.Mathlib.Omega.{arith}
 use borrow.Author.Tests.{lt-ltb, ne-eqb}
 use lib.Dec.{eqb}
 use lib.ListN.{length, getD, drop, set}
-use lib.Seq.{sets, sets-eq, set-out}
+use lib.Seq.{sets, set-out, getD-drop}
 use Rattle.messages.specs.Table.{groupCount}
 use Rattle.messages.specs.declared.Edition.{Edition}
 use Rattle.messages.specs.declared.Edition.the-variants.{Iso, Sae}
@@ -25,8 +25,8 @@ use Rattle.rules.specs.Rules.{mayReply, carIn}
 use Rattle.words.specs.Words.{headCount, width, wordCount, sumCount, spreadWidth, spreadCount, recordOf, sumRuns, spreadRuns, given, recordsOf, configOf, editionIn, stateBy, stateOf, stationOf, withRecords, inState}
 use Rattle.rules.specs.Numbers.{pilotOf, editionOf, stateNumber}
 use Rattle.ends.specs.Words.{flagOf, runs}
-use Rattle.words.specs.Written.{stateTime, stateRun, Fits, pilotNumber, editionNumber, wordsOf, spreadOctets, headOf}
-use Rattle.ends.proofs.RunLaws.{getD-before, getD-front}
+use Rattle.words.specs.Written.{stateTime, stateRun, statePlace, stateWords, TimesFit, Fits, pilotNumber, editionNumber, wordsOf, spreadOctets, headOf}
+use Rattle.ends.proofs.RunLaws.{drop-behind, getD-before, getD-front, getD-stored}
 use Rattle.words.proofs.CopyLaws.{Sized, length-spread}
 use Rattle.words.proofs.RecordWords.{place, length-records, record-put, flag-back, record-back}
 use Rattle.ends.proofs.WordLaws.{flag-and}
@@ -37,10 +37,18 @@ use Rattle.ends.proofs.WordLaws.{flag-and}
 abbrev pub SameHead : List ℕ → List ℕ → Type 0
 SameHead v w = (j : ℕ) → j < headCount → getD v j 0 ≡ getD w j 0
 
+-- where what stands behind the state begins
+abbrev stateEnd : ℕ
+stateEnd = 12
+
+-- two lists whose heads are the same before the state and behind it have the same configuration
+config-kept : (v w : List ℕ) → ((j : ℕ) → j < statePlace → getD v j 0 ≡ getD w j 0) → ((j : ℕ) → stateEnd + j < headCount → getD v (stateEnd + j) 0 ≡ getD w (stateEnd + j) 0) → configOf v ≡ configOf w
+unfolding configOf
+config-kept v w e f = rw (e 0 (omega arith), e 1 (omega arith), e 2 (omega arith), e 3 (omega arith), e 4 (omega arith), e 5 (omega arith), f 0 (omega arith), f 1 (omega arith), f 2 (omega arith))
+
 module _ (v w : List ℕ) (e : SameHead v w) where
   pub config-same : configOf v ≡ configOf w
-  unfolding configOf
-  config-same = rw (e 0 (omega arith), e 1 (omega arith), e 2 (omega arith), e 3 (omega arith), e 4 (omega arith), e 5 (omega arith), e 12 (omega arith), e 13 (omega arith), e 14 (omega arith))
+  config-same = config-kept v w (λ j h. e j (omega arith)) (λ j h. e (stateEnd + j) h)
 
   state-same : stateOf v ≡ stateOf w
   state-same = rw (e 6 (omega arith), e 7 (omega arith), e 8 (omega arith), e 9 (omega arith))
@@ -105,9 +113,9 @@ pub station-back : (z : Station) (s x : List ℕ) → GoodConfiguration (z .conf
 unfolding stationOf configOf headOf
 station-back z s x g fit =
     let o = z .config in
-    let h = fit .0 in
-    let k = fit .1 .0 in
-    let l = fit .1 .1 in
+    let h = fit .0 .0 in
+    let k = fit .0 .1 in
+    let l = fit .1 in
     let b : eqb (flagOf (o .good)) 1 && mayReply (o .address) (o .modem) (o .nid) ≡ o .good = flag-and (o .good) (mayReply (o .address) (o .modem) (o .nid)) (good-back o g) in
     let f : eqb (flagOf (o .exempt)) 1 ≡ o .exempt = flag-back (o .exempt) in
     let e : z .clock % 2 ^ 32 ≡ z .clock = omega arith in
@@ -141,21 +149,36 @@ module _ (z : Station) (w v : List ℕ) (l : headCount ≤ length w) (e : v ≡ 
       ∙ ap (λ (u : Station). withRecords u (z .records)) (station-same v head same-head s x s x (recordsOf v s x) refl)
       ∙ station-back z s x g k
 
-  -- the records behind it are as they were
-  behind : z .config .edition ≡ editionIn w → (s x : List ℕ) → recordsOf v s x ≡ recordsOf w s x
-  unfolding recordsOf configOf headOf
-  behind f s x =
-      let d : drop headCount v ≡ drop headCount w = ap (drop headCount) (e ∙ sets-eq (headOf (z .config) (z .state) (z .pilot) (z .clock)) w 0 l) in
-      let same : editionIn v ≡ editionIn w = ap editionOf (same-head 13 (omega arith)) ∙ edition-back (z .config .edition) ∙ f in
-      λ i. zipWith given (zipWith (recordOf (same i)) (runs recordCount width (d i)) (sumRuns s)) (spreadRuns x)
+-- ---- another state, with the pilot state and the clock
 
-  -- so that with them it is the station
-  put-back : (s x : List ℕ) → z .config .edition ≡ editionIn w → z .records ≡ recordsOf w s x → GoodConfiguration (z .config) → Fits (z .config) (z .state) (z .clock) → stationOf v s x ≡ z
-  unfolding stationOf
-  put-back s x f r g k = packed s x (stationOf v s x) g k (ap (withRecords (stationOf v s x)) (behind f s x ∙ sym r))
+module _ (w v : List ℕ) (st : State) (p : Pilot) (n : ℕ) (l : headCount ≤ length w) (e : v ≡ sets w statePlace (stateWords st p n)) where
+  -- a word of theirs
+  state-word : (j : ℕ) → j < length (stateWords st p n) → getD v (statePlace + j) 0 ≡ getD (stateWords st p n) j 0
+  state-word j h = ap (λ (u : List ℕ). getD u (statePlace + j) 0) e ∙ getD-stored (stateWords st p n) w statePlace j 0 (omega arith) h
 
--- another state stored, with the pilot state and the clock
-pub state-put : (w v s x : List ℕ) (o : Configuration) (st : State) (p : Pilot) (n : ℕ) → headCount ≤ length w → o ≡ configOf w → v ≡ sets w 0 (headOf o st p n)
-    → GoodConfiguration (stationOf w s x .config) → Fits (stationOf w s x .config) st n → stationOf v s x ≡ inState st p n (stationOf w s x)
-unfolding stationOf
-state-put w v s x o st p n l c e = put-back (inState st p n (stationOf w s x)) w v l (e ∙ ap (λ (q : Configuration). sets w 0 (headOf q st p n)) c) s x refl refl
+  -- what stands behind them is as it was
+  behind : (k : ℕ) → stateEnd ≤ k → drop k v ≡ drop k w
+  behind k h = ap (drop k) e ∙ drop-behind (stateWords st p n) w statePlace k h
+
+  -- and so is the configuration
+  config-put : configOf v ≡ configOf w
+  config-put =
+      config-kept v w (λ j h. ap (λ (u : List ℕ). getD u j 0) e ∙ getD-before (stateWords st p n) w statePlace j 0 h)
+      (λ j h. sym (getD-drop stateEnd v j 0) ∙ ap (λ (u : List ℕ). getD u j 0) (behind stateEnd (omega arith)) ∙ getD-drop stateEnd w j 0)
+
+  pub state-put : (s x : List ℕ) → TimesFit st n → stationOf v s x ≡ inState st p n (stationOf w s x)
+  unfolding stationOf recordsOf
+  state-put s x fit =
+      let h = fit .0 in
+      let k = fit .1 in
+      let d : drop headCount v ≡ drop headCount w = behind headCount (omega arith) in
+      let q : stateOf v ≡ st = rw (state-word 0 (omega arith), state-word 1 (omega arith), state-word 2 (omega arith), state-word 3 (omega arith)) (state-back st h) in
+      let m : pilotOf (getD v 10 0) ≡ p = ap pilotOf (state-word 4 (omega arith)) ∙ pilot-back p in
+      let c : getD v 11 0 % 2 ^ 32 ≡ n = omega (arith, state-word 5 (omega arith)) in
+      λ i. record {
+        config = config-put i;
+        state = q i;
+        pilot = m i;
+        clock = c i;
+        records = zipWith given (zipWith (recordOf (config-put i .edition)) (runs recordCount width (d i)) (sumRuns s)) (spreadRuns x);
+      }

@@ -67,6 +67,19 @@ configOf w = record {
   carriers = getD w 14 0 % 2 ^ 32;
 }
 
+-- its identity, what a frame is judged by: zeros and no exemption stand for the rest
+abbrev pub identity : Configuration → Configuration
+identity o = record {
+  good = o .good;
+  address = o .address;
+  modem = o .modem;
+  nid = record { 0 = 0 };
+  nmk = record { 0 = 0; 1 = 0 };
+  exempt = false;
+  edition = o .edition;
+  carriers = 0;
+}
+
 -- its edition
 abbrev pub editionIn : List ℕ → Edition
 editionIn w = configOf w .edition

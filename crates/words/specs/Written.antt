@@ -79,12 +79,24 @@ abbrev pub editionNumber : Edition → ℕ
 editionNumber Iso = 0
 editionNumber Sae = 1
 
+-- where the state stands in the head, with the pilot state and the clock
+abbrev pub statePlace : ℕ
+statePlace = 6
+
+-- their words
+abbrev pub stateWords : State → Pilot → ℕ → List ℕ
+stateWords st p t = stateNumber st ∷ stateTime st ∷ carIn st .0 ∷ stateRun st ∷ pilotNumber p ∷ t ∷ []
+
 -- the words of the head
 unfoldable pub headOf : Configuration → State → Pilot → ℕ → List ℕ
 headOf o st p t =
     flagOf (o .good) ∷ o .address .0 ∷ o .modem .0 ∷ o .nid .0 ∷ o .nmk .0 ∷ o .nmk .1
-    ∷ stateNumber st ∷ stateTime st ∷ carIn st .0 ∷ stateRun st ∷ pilotNumber p ∷ t ∷ flagOf (o .exempt) ∷ editionNumber (o .edition) ∷ o .carriers ∷ []
+    ∷ stateWords st p t ++ (flagOf (o .exempt) ∷ editionNumber (o .edition) ∷ o .carriers ∷ [])
 
--- a state's time, the clock and the carriers are numbers of 32 binary digits
+-- a state's time and the clock are numbers of 32 binary digits
+abbrev pub TimesFit : State → ℕ → Type 0
+TimesFit st t = (stateTime st < 2 ^ 32) × (t < 2 ^ 32)
+
+-- and so are the carriers
 abbrev pub Fits : Configuration → State → ℕ → Type 0
-Fits o st t = (stateTime st < 2 ^ 32) × ((t < 2 ^ 32) × (o .carriers < 2 ^ 32))
+Fits o st t = TimesFit st t × (o .carriers < 2 ^ 32)

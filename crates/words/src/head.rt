@@ -13,26 +13,52 @@ ghost use mathlib.Core.Path.{_≡_};
 ghost use Prim.Native.Nat.{_≤_};
 ghost use lib.ListN.{length};
 ghost use lib.Seq.{sets};
-ghost use Rattle.words.specs.Words.{headCount, configOf, editionIn, stateOf, pilotIn, clockIn};
-ghost use Rattle.words.specs.Written.{headOf, Fits};
+ghost use Rattle.words.specs.Words.{headCount, configOf, identity, editionIn, stateOf, pilotIn, clockIn};
+ghost use Rattle.words.specs.Written.{statePlace, stateWords, headOf, TimesFit, Fits};
+
+// Where the words of the state begin; the pilot state and the clock stand with it.
+const STATE_PLACE: usize = 6;
+
+// How many words these have.
+const STATE_WIDTH: usize = 6;
+
+// The identity of the configuration: what a frame is judged by.
+pub(crate) fn identity(words: &[u64]) -> Configuration
+    requires { ⌜ headCount ≤ length (now words) ⌝ }
+    ensures { λ r. ⌜ r ≡ identity (configOf (now (words .entry))) ⌝ }
+{
+    let address = StationAddress(words[1]);
+    let modem = ModemAddress(words[2]);
+    let good = rules::may_reply(address, modem, Nid(words[3]));
+    Configuration {
+        good: (words[0] == 1) & good,
+        address: address,
+        modem: modem,
+        nid: Nid(0),
+        nmk: Nmk(0, 0),
+        exempt: false,
+        edition: rules::edition_of(words[13]),
+        carriers: 0,
+    }
+}
 
 // The configuration.
 pub(crate) fn config(words: &[u64]) -> Configuration
     requires { ⌜ headCount ≤ length (now words) ⌝ }
     ensures { λ r. ⌜ r ≡ configOf (now (words .entry)) ⌝ }
 {
-    let address = words[1];
-    let modem = words[2];
-    let nid = words[3];
-    let good = rules::may_reply(StationAddress(address), ModemAddress(modem), Nid(nid));
+    let us = identity(words);
+    let address = us.address;
+    let modem = us.modem;
+    let edition = us.edition;
     Configuration {
-        good: (words[0] == 1) & good,
-        address: StationAddress(address),
-        modem: ModemAddress(modem),
-        nid: Nid(nid),
+        good: us.good,
+        address: address,
+        modem: modem,
+        nid: Nid(words[3]),
         nmk: Nmk(words[4], words[5]),
         exempt: words[12] == 1,
-        edition: rules::edition_of(words[13]),
+        edition: edition,
         carriers: ends::fields::low(words[14]),
     }
 }
@@ -69,6 +95,19 @@ pub(crate) fn clock(words: &[u64]) -> u32
     ends::fields::low(words[11])
 }
 
+// The words of the state, the pilot state and the clock.
+fn state_words(state: State, pilot: Pilot, clock: u32) -> [u64; STATE_WIDTH]
+    ensures { λ r. ⌜ (r ≡ stateWords state pilot clock) × TimesFit state clock ⌝ }
+{
+    let number = ends::fields::from32(rules::state_number(state));
+    let left = ends::fields::from32(fields::state_time(state));
+    let car = rules::car_in(state);
+    let run = fields::state_run(state);
+    let at = fields::pilot_number(pilot);
+    let reading = ends::fields::from32(clock);
+    [number, left, car.0, run, at, reading]
+}
+
 // The words of the head.
 fn head_words(config: Configuration, state: State, pilot: Pilot, clock: u32) -> [u64; HEAD]
     ensures { λ r. ⌜ (r ≡ headOf config state pilot clock) × Fits config state clock ⌝ }
@@ -78,12 +117,7 @@ fn head_words(config: Configuration, state: State, pilot: Pilot, clock: u32) -> 
     let nid = config.nid;
     let nmk = config.nmk;
     let good = ends::fields::flag(config.good);
-    let number = ends::fields::from32(rules::state_number(state));
-    let left = ends::fields::from32(fields::state_time(state));
-    let car = rules::car_in(state);
-    let run = fields::state_run(state);
-    let at = fields::pilot_number(pilot);
-    let reading = ends::fields::from32(clock);
+    let now = state_words(state, pilot, clock);
     let exempt = ends::fields::flag(config.exempt);
     let kind = config.edition;
     let edition = fields::edition_number(kind);
@@ -95,16 +129,25 @@ fn head_words(config: Configuration, state: State, pilot: Pilot, clock: u32) -> 
         nid.0,
         nmk.0,
         nmk.1,
-        number,
-        left,
-        car.0,
-        run,
-        at,
-        reading,
+        now[0],
+        now[1],
+        now[2],
+        now[3],
+        now[4],
+        now[5],
         exempt,
         edition,
         carriers,
     ]
+}
+
+// Stores the state, the pilot state and the clock.
+pub(crate) fn put_state(words: &mut [u64], state: State, pilot: Pilot, clock: u32)
+    requires { ⌜ headCount ≤ length (now words) ⌝ }
+    ensures { λ _. ⌜ (now (words .exit) ≡ sets (now (words .entry)) statePlace (stateWords state pilot clock)) × TimesFit state clock ⌝ }
+{
+    let now = state_words(state, pilot, clock);
+    ends::runs::put_words(&now, words, STATE_PLACE);
 }
 
 // Stores the head.

@@ -27,7 +27,7 @@ ghost use Rattle.rules.specs.Records.{freed};
 ghost use Rattle.rules.specs.Rules.{freeRecord};
 ghost use Rattle.rules.specs.Validation.{anyValidates};
 ghost use Rattle.records.specs.Places.{ownFrom, placeOf};
-ghost use Rattle.words.specs.Words.{configOf, editionIn, stateOf, pilotIn, clockIn, recordsOf, heldCount, stationOf, withRecords, inState};
+ghost use Rattle.words.specs.Words.{configOf, identity, editionIn, stateOf, pilotIn, clockIn, recordsOf, heldCount, stationOf, withRecords, inState};
 ghost use Rattle.words.specs.Wiped.{Wiped};
 
 // How many words the head has.
@@ -62,6 +62,13 @@ pub fn config_of(words: &StationWords) -> Configuration
     ensures { λ r. ⌜ r ≡ configOf (now (words .entry)) ⌝ }
 {
     head::config(words)
+}
+
+// The identity of the configuration, by five words: what a frame is judged by.
+pub fn identity_of(words: &StationWords) -> Configuration
+    ensures { λ r. ⌜ r ≡ identity (configOf (now (words .entry))) ⌝ }
+{
+    head::identity(words)
 }
 
 // The edition, by one word.

@@ -96,8 +96,7 @@ pub(crate) fn put_state(words: &mut [u64], state: State, pilot: Pilot, clock: u3
     requires { ⌜ length (now words) ≡ wordCount ⌝ }
     ensures { λ _. ⌜ ((sums spread : List ℕ) → stationOf (now (words .exit)) sums spread ≡ inState state pilot clock (stationOf (now (words .entry)) sums spread)) ⌝ }
 {
-    let config = head::config(words);
-    head::put(words, config, state, pilot, clock);
+    head::put_state(words, state, pilot, clock);
 }
 
 // Wipes a station.

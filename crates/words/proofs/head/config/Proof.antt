@@ -1,38 +1,23 @@
--- `words::head::config` meets its contract.
+-- `words::head::config` meets its contract: the identity, and what it leaves out.
 use Rattle.words.specs.Words.{configOf}
 use borrow.Author.Needs.{needs}
 use Rattle.words.proofs.head.config.Statement.{statement}
 use Rattle.words.proofs.head.config.Tie as tie
 
-shared-slice-read-address : tie.Need-shared-slice-read-address
-shared-slice-read-address c = search needs
-
-shared-slice-read-modem : tie.Need-shared-slice-read-modem
-shared-slice-read-modem c = search needs
-
-shared-slice-read-nid : tie.Need-shared-slice-read-nid
-shared-slice-read-nid c = search needs
-
-may-reply-requires : tie.Need-may-reply-requires
-may-reply-requires c κs = search needs
+identity-requires : tie.Need-identity-requires
+identity-requires c κs = search needs
 
 shared-slice-read-t7 : tie.Need-shared-slice-read-t7
 shared-slice-read-t7 c = search needs
 
-shared-slice-read-t17 : tie.Need-shared-slice-read-t17
-shared-slice-read-t17 c = search needs
+shared-slice-read-t10 : tie.Need-shared-slice-read-t10
+shared-slice-read-t10 c = search needs
 
-shared-slice-read-t19 : tie.Need-shared-slice-read-t19
-shared-slice-read-t19 c = search needs
+shared-slice-read-t12 : tie.Need-shared-slice-read-t12
+shared-slice-read-t12 c = search needs
 
-shared-slice-read-t22 : tie.Need-shared-slice-read-t22
-shared-slice-read-t22 c = search needs
-
-shared-slice-read-edition-of : tie.Need-shared-slice-read-edition-of
-shared-slice-read-edition-of c = search needs
-
-edition-of-requires : tie.Need-edition-of-requires
-edition-of-requires c κs = search needs
+shared-slice-read-t15 : tie.Need-shared-slice-read-t15
+shared-slice-read-t15 c = search needs
 
 shared-slice-read-low : tie.Need-shared-slice-read-low
 shared-slice-read-low c = search needs
@@ -42,22 +27,17 @@ low-requires c κs = search needs
 
 returns : tie.Need-returns
 unfolding configOf
-returns c = simp (c .before .before .before .before .before .before .before .before .may-reply .ensures, c .before .before .edition-of .ensures, c .low .ensures)
+returns c = simp (c .before .before .before .before .before .before .before .before .identity .ensures, c .low .ensures)
 
 pub config-spec : {M : Type 1} → statement M
 config-spec =
     tie.close
     (tie.spec
-    shared-slice-read-address
-    shared-slice-read-modem
-    shared-slice-read-nid
-    may-reply-requires
+    identity-requires
     shared-slice-read-t7
-    shared-slice-read-t17
-    shared-slice-read-t19
-    shared-slice-read-t22
-    shared-slice-read-edition-of
-    edition-of-requires
+    shared-slice-read-t10
+    shared-slice-read-t12
+    shared-slice-read-t15
     shared-slice-read-low
     low-requires
     returns)

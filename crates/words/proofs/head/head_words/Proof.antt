@@ -1,5 +1,4 @@
 -- `words::head::head_words` meets its contract.
-use native.Mathlib.Omega.{arith}
 use Rattle.words.specs.Written.{headOf}
 use borrow.Author.Needs.{needs}
 use Rattle.words.proofs.head.head_words.Statement.{statement}
@@ -8,29 +7,8 @@ use Rattle.words.proofs.head.head_words.Tie as tie
 flag-requires : tie.Need-flag-requires
 flag-requires c κs = search needs
 
-state-number-requires : tie.Need-state-number-requires
-state-number-requires c κs = search needs
-
-from32-requires : tie.Need-from32-requires
-from32-requires c κs = search needs
-
-state-time-requires : tie.Need-state-time-requires
-state-time-requires c κs = search needs
-
-from32-requires-2 : tie.Need-from32-requires-2
-from32-requires-2 c κs = search needs
-
-car-in-requires : tie.Need-car-in-requires
-car-in-requires c κs = search needs
-
-state-run-requires : tie.Need-state-run-requires
-state-run-requires c κs = search needs
-
-pilot-number-requires : tie.Need-pilot-number-requires
-pilot-number-requires c κs = search needs
-
-from32-requires-3 : tie.Need-from32-requires-3
-from32-requires-3 c κs = search needs
+state-words-requires : tie.Need-state-words-requires
+state-words-requires c κs = search needs
 
 flag-requires-2 : tie.Need-flag-requires-2
 flag-requires-2 c κs = search needs
@@ -38,14 +16,32 @@ flag-requires-2 c κs = search needs
 edition-number-requires : tie.Need-edition-number-requires
 edition-number-requires c κs = search needs
 
-from32-requires-4 : tie.Need-from32-requires-4
-from32-requires-4 c κs = search needs
+from32-requires : tie.Need-from32-requires
+from32-requires c κs = search needs
+
+array-read-t18 : tie.Need-array-read-t18
+array-read-t18 c = search needs
+
+array-read-t21 : tie.Need-array-read-t21
+array-read-t21 c = search needs
+
+array-read-t24 : tie.Need-array-read-t24
+array-read-t24 c = search needs
+
+array-read-t27 : tie.Need-array-read-t27
+array-read-t27 c = search needs
+
+array-read-t30 : tie.Need-array-read-t30
+array-read-t30 c = search needs
+
+array-read-t33 : tie.Need-array-read-t33
+array-read-t33 c = search needs
 
 returns : tie.Need-returns
 unfolding headOf
 returns c = (
-  simp (c .before .before .before .before .before .before .before .before .before .before .before .flag .ensures, c .before .before .before .before .before .before .before .before .before .from32 .ensures .0, c .before .before .before .before .before .before .before .before .before .before .state-number .ensures, c .before .before .before .before .before .before .before .from322 .ensures .0, c .before .before .before .before .before .before .before .before .state-time .ensures, c .before .before .before .before .before .before .car-in .ensures, c .before .before .before .before .before .state-run .ensures, c .before .before .before .before .pilot-number .ensures, c .before .before .before .from323 .ensures .0, c .before .before .flag2 .ensures, c .before .edition-number .ensures, c .from324 .ensures .0),
-  (omega (arith, c .before .before .before .before .before .before .before .from322 .ensures .1, c .before .before .before .before .before .before .before .before .state-time .ensures), (c .before .before .before .from323 .ensures .1, c .from324 .ensures .1)),
+  simp (c .before .before .before .before .flag .ensures, c .before .before .before .state-words .ensures .0, c .before .before .flag2 .ensures, c .before .edition-number .ensures, c .from32 .ensures .0),
+  (c .before .before .before .state-words .ensures .1, c .from32 .ensures .1),
 )
 
 pub head-words-spec : {M : Type 1} → statement M
@@ -53,15 +49,14 @@ head-words-spec =
     tie.close
     (tie.spec
     flag-requires
-    state-number-requires
-    from32-requires
-    state-time-requires
-    from32-requires-2
-    car-in-requires
-    state-run-requires
-    pilot-number-requires
-    from32-requires-3
+    state-words-requires
     flag-requires-2
     edition-number-requires
-    from32-requires-4
+    from32-requires
+    array-read-t18
+    array-read-t21
+    array-read-t24
+    array-read-t27
+    array-read-t30
+    array-read-t33
     returns)
