@@ -53,12 +53,13 @@ use Rattle.station.proofs.ComesLaws.{state-other}
 use Rattle.station.proofs.OwnLaws.{AtOwn, own-none, own-settled}
 use Rattle.station.proofs.ParmLaws.{parm-answered}
 use Rattle.receiving.proofs.JudgeLaws.{taken, decided, decided-taken, frame-decided, judges, judged-octets}
-use Rattle.words.specs.Words.{configOf, editionIn, stateOf, recordsOf, stationOf, withRecords}
+use Rattle.words.specs.Words.{configOf, identity, editionIn, stateOf, recordsOf, stationOf, withRecords}
 use Rattle.words.proofs.Meant.{meant}
 use Rattle.lahzavar.specs.declared.Answered.{Answered}
 use Rattle.lahzavar.specs.Answers.{saidOf, answered}
 use Rattle.lahzavar.specs.Frames.{Comes, Stores}
 use Rattle.lahzavar.specs.Lent.{Lent}
+use Rattle.lahzavar.proofs.IdentityLaws.{judged-by}
 
 -- ---- what the parts come to
 
@@ -140,12 +141,13 @@ pub ruled-lent : (w s z octets out exit v t y : List ℕ) (r : Answered) (x : Ch
 unfolding step outcome sharedStep
 ruled-lent w s z octets out exit v t y r x e h = comes-as x (rule (shared (stationOf w s z)) (inner (stationOf w s z)) (calls.frame octets (length out))) w s z out exit v t y r (sym e) h
 
-module _ (w s z octets out : List ℕ) (o : Configuration) (j : Judged) (eo : o ≡ configOf w)
+module _ (w s z octets out : List ℕ) (o : Configuration) (j : Judged) (eo : o ≡ identity (configOf w))
     (ej : judgedOf j (besideOf (readRules (o .edition) octets)) ≡ judgeRule o (length out) octets) where
   -- what judging gives of the configuration of the words
   judged-words : (k : Judged) → j ≡ k → judgeRule (configOf w) (length out) octets ≡ judgedOf k (besideOf (readRules (editionIn w) octets))
   judged-words k t =
-      sym (ap (λ (p : Configuration). judgeRule p (length out) octets) eo)
+      sym (judged-by (configOf w) (length out) octets)
+      ∙ sym (ap (λ (p : Configuration). judgeRule p (length out) octets) eo)
       ∙ sym ej
       ∙ ap₂ (λ (x : Judged) (p : Configuration). judgedOf x (besideOf (readRules (p .edition) octets))) t eo
 

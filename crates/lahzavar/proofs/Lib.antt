@@ -1,6 +1,7 @@
 pub mod LentLaws
 pub mod OctetsFit
 pub mod FrameLaws
+pub mod IdentityLaws
 pub mod EventLaws
 pub mod MatchLaws
 pub mod MapLaws

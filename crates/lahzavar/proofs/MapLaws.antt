@@ -28,11 +28,12 @@ use Rattle.receiving.specs.Maps.{mapAnswer}
 use Rattle.station.specs.Frames.{Ready}
 use Rattle.station.proofs.MapLaws.{map-elsewhere, map-matched, unread-refused, unread-map, unread-ready}
 use Rattle.words.proofs.Meant.{meant}
-use Rattle.words.specs.Words.{configOf, stateOf, stationOf}
+use Rattle.words.specs.Words.{configOf, identity, stateOf, stationOf}
 use Rattle.lahzavar.specs.declared.Answered.{Answered}
 use Rattle.lahzavar.specs.Answers.{saidOf}
 use Rattle.lahzavar.specs.Frames.{Takes}
 use Rattle.lahzavar.specs.Lent.{Lent}
+use Rattle.lahzavar.proofs.IdentityLaws.{map-judged-by}
 use Rattle.lahzavar.proofs.FrameLaws.{comes-refused, ruled-lent}
 
 module _ (w s z : List ℕ) (c : CarAddress) (n : ℕ) (st : State) (es : st ≡ stateOf w) (r : Answered) where
@@ -62,10 +63,10 @@ module _ (w s z octets out : List ℕ) (x : Refusal) (e : judgeRule (configOf w)
   unread-lent h q = ruled-lent w s z octets out out w s z r _ (unread-refused (stationOf w s z) octets out (numberOf x) judged-here h) (comes-refused _ x w s z out r refl q)
 
   -- at 3 it is judged as a message of amplitude maps
-  module _ (h : eqb (numberOf x) 3 ≡ true) (o : Configuration) (eo : o ≡ configOf w) (j : MapJudged) (ej : mapJudgedOf j ≡ mapJudgeRule o octets) where
+  module _ (h : eqb (numberOf x) 3 ≡ true) (o : Configuration) (eo : o ≡ identity (configOf w)) (j : MapJudged) (ej : mapJudgedOf j ≡ mapJudgeRule o octets) where
     map-here : (k : MapJudged) → j ≡ k → mapJudgedOf k ≡ mapJudgeRule (stationOf w s z .config) octets
     unfolding stationOf
-    map-here k t = sym (ap mapJudgedOf t) ∙ ej ∙ ap (λ (p : Configuration). mapJudgeRule p octets) eo
+    map-here k t = sym (ap mapJudgedOf t) ∙ ej ∙ ap (λ (p : Configuration). mapJudgeRule p octets) eo ∙ map-judged-by (configOf w) octets
 
     -- and refused, or answered
     pub map-refused-lent : (y : Refusal) → j ≡ mapJudged.Refused y → r ≡ saidOf (no (numberOf y)) → Lent (calls.frame octets (length out)) w s z out out w s z r

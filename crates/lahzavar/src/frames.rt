@@ -232,8 +232,8 @@ pub(crate) fn receive(
 ) -> Answered
     ensures { λ r. ⌜ Lent (calls.frame (now (octets .entry)) (length (now (out .entry)))) (now (words .entry)) (now (sums .entry)) (now (spread .entry)) (now (out .entry)) (now (out .exit)) (now (words .exit)) (now (sums .exit)) (now (spread .exit)) r ⌝ }
 {
-    let config = words::config_of(words);
-    let judged = judge::judge(config, octets, out.len());
+    let us = words::identity_of(words);
+    let judged = judge::judge(us, octets, out.len());
     match judged {
         Judged::Refused(refusal) => maps::unread(words, refusal, octets, out),
         Judged::Taken { car, request } => match request {

@@ -47,8 +47,8 @@ pub(crate) fn unread(
     if !judge::is_unknown(refusal) {
         return answers::refused(refusal);
     }
-    let config = words::config_of(words);
-    let judged = judge::judge_map(config, octets);
+    let us = words::identity_of(words);
+    let judged = judge::judge_map(us, octets);
     match judged {
         MapJudged::Refused(untaken) => answers::refused(untaken),
         MapJudged::Asked { car, carriers } => map_req(words, car, carriers, out),

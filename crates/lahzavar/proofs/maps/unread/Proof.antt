@@ -18,8 +18,8 @@ returns c =
     let a = s .args in
     λ u z. unread-lent (a .words .now) u z (a .octets .now) (a .out .now) (a .refusal) (s .pre) (c .refused .result) (sym (c .before .before .is-unknown .ensures) ∙ not-true _ (c .before .if1 .taken)) (c .refused .ensures)
 
-config-of-requires : tie.Need-config-of-requires
-config-of-requires c κs = search needs
+identity-of-requires : tie.Need-identity-of-requires
+identity-of-requires c κs = search needs
 
 judge-map-requires : tie.Need-judge-map-requires
 judge-map-requires c κs = search needs
@@ -40,7 +40,7 @@ returns-2 : tie.Need-returns-2
 returns-2 c =
     let s = c .before .before .before .before .before .before .before .before .before .before in
     let a = s .args in
-    λ u z. map-refused-lent (a .words .now) u z (a .octets .now) (a .out .now) (a .refusal) (s .pre) (c .refused2 .result) (sym (c .before .before .before .before .before .before .before .is-unknown .ensures) ∙ not-false _ (c .before .before .before .before .before .before .if1 .left)) _ (c .before .before .before .before .before .config-of .ensures) (c .before .before .before .before .judge-map .result) (c .before .before .before .before .judge-map .ensures) _ (c .before .before .judged .given .1) (c .refused2 .ensures)
+    λ u z. map-refused-lent (a .words .now) u z (a .octets .now) (a .out .now) (a .refusal) (s .pre) (c .refused2 .result) (sym (c .before .before .before .before .before .before .before .is-unknown .ensures) ∙ not-false _ (c .before .before .before .before .before .before .if1 .left)) _ (c .before .before .before .before .before .identity-of .ensures) (c .before .before .before .before .judge-map .result) (c .before .before .before .before .judge-map .ensures) _ (c .before .before .judged .given .1) (c .refused2 .ensures)
 
 same-length : tie.Need-same-length
 same-length c = search needs
@@ -49,7 +49,7 @@ returns-3 : tie.Need-returns-3
 returns-3 c =
     let s = c .before .before .before .before .before .before .before .before .before .before .before .before .before in
     let a = s .args in
-    λ u z. map-asked-lent (a .words .now) u z (a .octets .now) (a .out .now) (a .refusal) (s .pre) (c .before .before .map-req .result) (sym (c .before .before .before .before .before .before .before .before .before .before .is-unknown .ensures) ∙ not-false _ (c .before .before .before .before .before .before .before .before .before .if1 .left)) _ (c .before .before .before .before .before .before .before .before .config-of .ensures) (c .before .before .before .before .before .before .before .judge-map .result) (c .before .before .before .before .before .before .before .judge-map .ensures) _ _ _ (c .before .before .before .before .before .judged2 .given .1) (c .before .before .map-req .ensures u z)
+    λ u z. map-asked-lent (a .words .now) u z (a .octets .now) (a .out .now) (a .refusal) (s .pre) (c .before .before .map-req .result) (sym (c .before .before .before .before .before .before .before .before .before .before .is-unknown .ensures) ∙ not-false _ (c .before .before .before .before .before .before .before .before .before .if1 .left)) _ (c .before .before .before .before .before .before .before .before .identity-of .ensures) (c .before .before .before .before .before .before .before .judge-map .result) (c .before .before .before .before .before .before .before .judge-map .ensures) _ _ _ (c .before .before .before .before .before .judged2 .given .1) (c .before .before .map-req .ensures u z)
 
 pub unread-spec : {M : Type 1} → statement M
 unread-spec =
@@ -58,7 +58,7 @@ unread-spec =
     is-unknown-requires
     refused-requires
     returns
-    config-of-requires
+    identity-of-requires
     judge-map-requires
     enum-known-judged
     refused-requires-2
