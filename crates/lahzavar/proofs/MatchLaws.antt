@@ -24,6 +24,7 @@ use Rattle.rules.specs.declared.Pilot.{Pilot}
 use Rattle.rules.specs.declared.Record.{Record}
 use Rattle.rules.specs.declared.State.{State}
 use Rattle.rules.specs.declared.State.the-variants.{Matching, Joining}
+use Rattle.rules.specs.declared.Station.{Station}
 use Rattle.rules.specs.Frames.{matchRule, confirmed, stateRule}
 use Rattle.rules.specs.FromOctets.{OctetRequest}
 use Rattle.rules.specs.Received.{matchReq}
@@ -39,6 +40,7 @@ use Rattle.records.proofs.PlaceLaws.{own-found, own-missing}
 use Rattle.station.specs.Frames.{Ready, joinRule}
 use Rattle.station.proofs.MatchLaws.{joins, join-none, join-own, match-matching, match-again, match-other, match-elsewhere}
 use Rattle.station.proofs.SendLaws.{match-cnf-writable}
+use Rattle.words.proofs.Meant.{meant}
 use Rattle.words.specs.Words.{configOf, editionIn, stateOf, pilotIn, clockIn, recordsOf, stationOf, withRecords, inState}
 use Rattle.lahzavar.specs.declared.Answered.{Answered}
 use Rattle.lahzavar.specs.Answers.{saidOf}
@@ -53,16 +55,32 @@ replied m k entry exit a r e h sends q =
     let sent : sending m Nothing (length entry) ≡ yes (record { frames = frame k ∷ []; indication = Nothing }) = ap (λ (x : Message). sending x Nothing (length entry)) e ∙ sends-writable k entry h Nothing in
     (q ∙ ap saidOf (sends .answer ∙ ap summary sent), sends .octets ∙ ap (λ (u : Outcome). splice 0 (joined (framesOf u)) entry) sent)
 
--- it can be written, with the configuration of the words
+-- it can be written: o is the configuration of the words, whose key has fields of 64 binary digits
 pub confirmable : (w s z f out : List ℕ) (c : CarAddress) (run : RunId) (o : Configuration) → o ≡ configOf w → Ready (stationOf w s z) c out → OctetRequest (editionIn w) (asking (editionIn w) run f)
-    → run .0 < 2 ^ 64 → (o .nmk .0 < 2 ^ 64) × (o .nmk .1 < 2 ^ 64) → Writable (messageTo o c (confirming (o .edition) run f)) (length out)
+    → run .0 < 2 ^ 64 → (o .nmk .0 < 2 ^ 64) × (o .nmk .1 < 2 ^ 64) → Writable (messageTo (configOf w) c (confirming (editionIn w) run f)) (length out)
 unfolding stationOf
 confirmable w s z f out c run o e q i u k =
     let key : (configOf w .nmk .0 < 2 ^ 64) × (configOf w .nmk .1 < 2 ^ 64) = subst (λ (x : Configuration). (x .nmk .0 < 2 ^ 64) × (x .nmk .1 < 2 ^ 64)) e k in
-    subst (λ (x : Configuration). Writable (messageTo x c (confirming (x .edition) run f)) (length out)) (sym e)
-    (match-cnf-writable (configOf w) c (length out) (q .kept .config .address (q .good)) (q .car) run _ _ (i .0) (i .1) u (q .kept .config .nid (q .good)) (key .0) (key .1) (q .room))
+    match-cnf-writable (configOf w) c (length out) (q .kept .config .address (q .good)) (q .car) run _ _ (i .0) (i .1) u (q .kept .config .nid (q .good)) (key .0) (key .1) (q .room)
+
+-- ---- with the same configuration
+
+module _ (w v : List ℕ) (e : configOf v ≡ configOf w) where
+  -- a reply can be sent
+  pub ready-kept : (s z x y out : List ℕ) (c : CarAddress) → Ready (stationOf w s z) c out → Ready (stationOf v x y) c out
+  unfolding stationOf
+  ready-kept s z x y out c q = record { good = ap (λ (o : Configuration). o .good) e ∙ q .good; kept = meant v x y; car = q .car; room = q .room }
+
+  -- and octets can ask for it
+  pub octets-kept : (run : RunId) (f : List ℕ) → OctetRequest (editionIn w) (asking (editionIn w) run f) → OctetRequest (editionIn v) (asking (editionIn v) run f)
+  octets-kept run f q = subst (λ (o : Configuration). OctetRequest (o .edition) (asking (o .edition) run f)) (sym e) q
 
 -- ---- what a state and some records come to, with a reply
+
+-- every record freed and another state stored: the configuration is as it was
+pub config-joined : (w u v : List ℕ) (st : State) (p : Pilot) (n : ℕ) → ((x y : List ℕ) → stationOf u x y ≡ withRecords (stationOf w x y) (map freed (recordsOf w x y))) → ((x y : List ℕ) → stationOf v x y ≡ inState st p n (stationOf u x y)) → configOf v ≡ configOf w
+unfolding stationOf
+config-joined w u v st p n h g = ap (λ (k : Station). k .config) (g [] [] ∙ ap (inState st p n) (h [] []))
 
 module _ (w s z entry exit v : List ℕ) (r : Answered) where
   comes-replied : (st : State) (rs : List Record) (fs : List (List ℕ)) → stationOf v s z ≡ build (shared (stationOf w s z)) (record { state = st; records = rs }) → Replies fs entry exit r

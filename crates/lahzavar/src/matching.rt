@@ -10,32 +10,31 @@ use receiving::reply;
 use records::find::Found;
 use records::requests;
 use records::requests::Verdict;
-use rules::Configuration;
 use rules::State;
 use words::StationSpread;
 use words::StationSums;
 use words::StationWords;
-ghost use mathlib.Core.List.{[], _∷_};
-ghost use lib.ListN.{length};
+ghost use mathlib.Core.List.{List, [], _∷_};
+ghost use Prim.Native.Nat.{ℕ};
 ghost use Rattle.rules.specs.FromOctets.{OctetRequest};
-ghost use Rattle.rules.specs.Replies.{messageTo, framesTo};
-ghost use Rattle.ends.specs.Sending.{Writable};
+ghost use Rattle.rules.specs.Replies.{framesTo};
 ghost use Rattle.station.specs.Frames.{Ready, joinRule};
-ghost use Rattle.words.specs.Words.{editionIn, stationOf};
+ghost use Rattle.words.specs.Words.{configOf, editionIn, stationOf};
 ghost use Rattle.lahzavar.specs.Frames.{Comes, Takes, Replies};
 ghost use Rattle.lahzavar.specs.Matching.{firstId, secondId, asking, confirming};
 
 // MATCH.CNF of a run, with the identifiers of its request.
 fn confirm(
-    config: Configuration,
+    words: &StationWords,
     car: CarAddress,
     run: RunId,
     octets: &[u8],
     out: &mut [u8],
 ) -> Answered
-    requires { ⌜ Writable (messageTo config car (confirming (config .edition) run (now octets))) (length (now out)) ⌝ }
-    ensures { λ r. ⌜ Replies (framesTo config car (confirming (config .edition) run (now (octets .entry)) ∷ [])) (now (out .entry)) (now (out .exit)) r ⌝ }
+    requires { ⌜ ((s z : List ℕ) → Ready (stationOf (now words) s z) car (now out)) × OctetRequest (editionIn (now words)) (asking (editionIn (now words)) run (now octets)) ⌝ }
+    ensures { λ r. ⌜ Replies (framesTo (configOf (now (words .entry))) car (confirming (editionIn (now (words .entry))) run (now (octets .entry)) ∷ [])) (now (out .entry)) (now (out .exit)) r ⌝ }
 {
+    let config = words::config_of(words);
     let edition = config.edition;
     let message = reply::match_cnf(config, car, run);
     let groups = messages::no_groups();
@@ -66,7 +65,6 @@ fn join(
     match verdict {
         Verdict::Refused(refusal) => answers::refused(refusal),
         Verdict::Accepted => {
-            let config = words::config_of(words);
             let pilot = words::pilot_of(words);
             let clock = words::clock_of(words);
             let joining = State::Joining {
@@ -76,7 +74,7 @@ fn join(
             };
             words::free_all(words);
             words::put_state(words, joining, pilot, clock);
-            confirm(config, car, run, octets, out)
+            confirm(words, car, run, octets, out)
         }
     }
 }
@@ -103,7 +101,7 @@ pub(crate) fn match_req(
             run: own,
         } => {
             if (car.0 == owner.0) & (run.0 == own.0) {
-                confirm(words::config_of(words), car, run, octets, out)
+                confirm(words, car, run, octets, out)
             } else {
                 answers::refused(Refusal::NoRecord)
             }

@@ -1,5 +1,4 @@
 -- By the verdict at the car's own record, or 11.
-use Prim.Native.Nat.{_^_, _<_}
 use mathlib.Core.Path.{sym, ap, _∙_}
 use Rattle.messages.specs.Reading.{yes}
 use Rattle.messages.specs.declared.Refusal.the-variants.{NoRecord}
@@ -7,7 +6,7 @@ use Rattle.records.specs.Requests.{verdictOf}
 use Rattle.words.specs.Words.{editionIn}
 use Rattle.lahzavar.specs.Matching.{firstId, secondId}
 use Rattle.lahzavar.proofs.FrameLaws.{comes-as, comes-refused}
-use Rattle.lahzavar.proofs.MatchLaws.{confirmable, comes-joined, join-missing, join-verdict}
+use Rattle.lahzavar.proofs.MatchLaws.{ready-kept, octets-kept, config-joined, comes-joined, join-missing, join-verdict}
 use borrow.Author.Needs.{needs}
 use Rattle.lahzavar.proofs.matching.join.Statement.{statement}
 use Rattle.lahzavar.proofs.matching.join.Tie as tie
@@ -42,9 +41,6 @@ refused-requires-2 c κs = search needs
 enum-told : tie.Need-enum-told
 enum-told c = search needs
 
-config-of-requires : tie.Need-config-of-requires
-config-of-requires c κs = search needs
-
 pilot-of-requires : tie.Need-pilot-of-requires
 pilot-of-requires c κs = search needs
 
@@ -57,20 +53,12 @@ free-all-requires c κs = search needs
 put-state-requires : tie.Need-put-state-requires
 put-state-requires c κs = search needs
 
--- the run is a 64-bit number
-run-fits : (c : tie.Start) → c .args .run .0 < 2 ^ 64
-run-fits c = search needs
-
--- and so is each half of the key, by the configuration's fields: `search` does not reach them behind so many calls
-key-fits : (c : tie.After-config-of) → (c .config-of .result .nmk .0 < 2 ^ 64) × (c .config-of .result .nmk .1 < 2 ^ 64)
-key-fits c = let nmk = c .config-of .ok .1 .1 .1 .1 .1 .1 .0 .1 .1 in (nmk .0 .1, nmk .1 .0 .1)
-
 confirm-requires : tie.Need-confirm-requires
 confirm-requires c κs =
-    let s = c .before .before .before .before .before .before .before .before .before .before .before .before .before .before .before .before .before .before .before .before .before .before .before .before .before in
+    let s = c .before .before .before .before .before .before .before .before .before .before .before .before .before .before .before .before .before .before .before .before .before .before .before .before in
     let a = s .args in
-    let config = c .before .before .before .before .before .before .before .before .before in
-    confirmable (a .words .now) (a .sums .now) (a .spread .now) (a .octets .now) (a .out .now) (a .car) (a .run) _ (config .config-of .ensures) (s .pre .0) (s .pre .1) (run-fits s) (key-fits config)
+    let same = config-joined (a .words .now) _ _ _ _ _ (c .before .before .before .before .free-all .ensures) (c .before .before .put-state .ensures) in
+    (λ x y. ready-kept (a .words .now) _ same (a .sums .now) (a .spread .now) x y (a .out .now) (a .car) (s .pre .0), octets-kept (a .words .now) _ same (a .run) (a .octets .now) (s .pre .1))
 
 returns-2 : tie.Need-returns-2
 returns-2 c =
@@ -84,11 +72,13 @@ same-length c = search needs
 
 returns-3 : tie.Need-returns-3
 returns-3 c =
-    let a = c .before .before .before .before .before .before .before .before .before .before .before .before .before .before .before .before .before .before .before .before .before .before .before .before .before .before .before .before .args in
-    let found = c .before .before .before .before .before .before .before .before .before .before .before .before .before .before .before .before .before .before .before .before .before .before .before .before .own-place in
+    let a = c .before .before .before .before .before .before .before .before .before .before .before .before .before .before .before .before .before .before .before .before .before .before .before .before .before .before .before .args in
+    let found = c .before .before .before .before .before .before .before .before .before .before .before .before .before .before .before .before .before .before .before .before .before .before .before .own-place in
+    let freed = c .before .before .before .before .before .before .before .free-all .ensures in
+    let put = c .before .before .before .before .before .put-state .ensures in
     comes-as _ _ (a .words .now) (a .sums .now) (a .spread .now) (a .out .now) _ _ _ _ (c .before .before .confirm .result)
-    (sym (join-verdict (a .words .now) (a .sums .now) (a .spread .now) (a .car) (a .run) (firstId (editionIn (a .words .now)) (a .octets .now)) (secondId (editionIn (a .words .now)) (a .octets .now)) (found .result) (found .ensures) _ _ (c .before .before .before .before .before .before .before .before .before .before .before .before .before .before .before .before .before .record-at .result) (yes tt) (c .before .before .before .before .before .before .before .before .before .before .before .before .before .before .before .before .before .before .before .before .before .before .found .given .1) (c .before .before .before .before .before .before .before .before .before .before .before .before .before .before .before .before .before .record-at .ensures .0) (sym (ap verdictOf (c .before .before .before .before .before .before .before .before .before .before .before .before .before .before .enum-told .given .1)) ∙ c .before .before .before .before .before .before .before .before .before .before .before .before .before .before .before .before .match-req .ensures)))
-    (comes-joined (a .words .now) (a .sums .now) (a .spread .now) (a .out .now) _ _ (c .before .before .confirm .result) (a .car) (a .run) (a .octets .now) _ (c .before .before .before .before .before .before .before .before .before .before .before .before .config-of .ensures) (c .before .before .confirm .ensures) _ _ _ _ (c .before .before .before .before .before .before .before .before .before .before .pilot-of .ensures) (c .before .before .before .before .before .before .before .before .clock-of .ensures) (c .before .before .before .before .before .before .free-all .ensures) (c .before .before .before .before .put-state .ensures))
+    (sym (join-verdict (a .words .now) (a .sums .now) (a .spread .now) (a .car) (a .run) (firstId (editionIn (a .words .now)) (a .octets .now)) (secondId (editionIn (a .words .now)) (a .octets .now)) (found .result) (found .ensures) _ _ (c .before .before .before .before .before .before .before .before .before .before .before .before .before .before .before .before .record-at .result) (yes tt) (c .before .before .before .before .before .before .before .before .before .before .before .before .before .before .before .before .before .before .before .before .before .found .given .1) (c .before .before .before .before .before .before .before .before .before .before .before .before .before .before .before .before .record-at .ensures .0) (sym (ap verdictOf (c .before .before .before .before .before .before .before .before .before .before .before .before .before .enum-told .given .1)) ∙ c .before .before .before .before .before .before .before .before .before .before .before .before .before .before .before .match-req .ensures)))
+    (comes-joined (a .words .now) (a .sums .now) (a .spread .now) (a .out .now) _ _ (c .before .before .confirm .result) (a .car) (a .run) (a .octets .now) _ (config-joined (a .words .now) _ _ _ _ _ freed put) (c .before .before .confirm .ensures) _ _ _ _ (c .before .before .before .before .before .before .before .before .before .before .before .pilot-of .ensures) (c .before .before .before .before .before .before .before .before .before .clock-of .ensures) freed put)
 
 pub join-spec : {M : Type 1} → statement M
 join-spec =
@@ -103,7 +93,6 @@ join-spec =
     enum-known-verdict
     refused-requires-2
     enum-told
-    config-of-requires
     pilot-of-requires
     clock-of-requires
     free-all-requires

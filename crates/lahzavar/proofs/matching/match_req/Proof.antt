@@ -1,9 +1,8 @@
 -- By the state.
-use Prim.Native.Nat.{_^_, _<_}
 use mathlib.Core.Path.{refl, sym, _∙_}
 use Rattle.messages.specs.declared.Refusal.the-variants.{NoRecord, WrongState}
 use Rattle.lahzavar.proofs.FrameLaws.{comes-as, comes-refused}
-use Rattle.lahzavar.proofs.MatchLaws.{confirmable, comes-again, in-matching, in-joining, of-another, elsewhere}
+use Rattle.lahzavar.proofs.MatchLaws.{ready-kept, comes-again, in-matching, in-joining, of-another, elsewhere}
 use borrow.Author.Needs.{needs}
 use Rattle.lahzavar.proofs.matching.match_req.Statement.{statement}
 use Rattle.lahzavar.proofs.matching.match_req.Tie as tie
@@ -20,22 +19,11 @@ join-requires c κs = search needs
 enum-known-state : tie.Need-enum-known-state
 enum-known-state c = search needs
 
-config-of-requires : tie.Need-config-of-requires
-config-of-requires c κs = search needs
-
--- the run is a 64-bit number
-run-fits : (c : tie.Start) → c .args .run .0 < 2 ^ 64
-run-fits c = search needs
-
--- and so is each half of the key
-key-fits : (c : tie.After-config-of) → (c .config-of .result .nmk .0 < 2 ^ 64) × (c .config-of .result .nmk .1 < 2 ^ 64)
-key-fits c = (search needs, search needs)
-
 confirm-requires : tie.Need-confirm-requires
 confirm-requires c κs =
-    let s = c .before .before .before .before .before .before .before .before .before .before .before .before .before .before .before in
+    let s = c .before .before .before .before .before .before .before .before .before .before .before .before .before .before in
     let a = s .args in
-    confirmable (a .words .now) (a .sums .now) (a .spread .now) (a .octets .now) (a .out .now) (a .car) (a .run) _ (c .before .config-of .ensures) (s .pre .0) (s .pre .1) (run-fits s) (key-fits (c .before))
+    (λ x y. ready-kept (a .words .now) (a .words .now) refl (a .sums .now) (a .spread .now) x y (a .out .now) (a .car) (s .pre .0), s .pre .1)
 
 refused-requires : tie.Need-refused-requires
 refused-requires c κs = search needs
@@ -57,12 +45,12 @@ same-length-2 c = search needs
 
 returns-2 : tie.Need-returns-2
 returns-2 c =
-    let a = c .before .before .before .before .before .before .before .before .before .before .before .before .before .before .before .before .before .before .args in
-    let state = c .before .before .before .before .before .before .before .before .before .before .before .before .before .before .state-of .ensures in
-    let given = c .before .before .before .before .before .before .before .before .before .before .before .before .state .given .1 in
+    let a = c .before .before .before .before .before .before .before .before .before .before .before .before .before .before .before .before .before .args in
+    let state = c .before .before .before .before .before .before .before .before .before .before .before .before .before .state-of .ensures in
+    let given = c .before .before .before .before .before .before .before .before .before .before .before .state .given .1 in
     comes-as _ _ (a .words .now) (a .sums .now) (a .spread .now) (a .out .now) _ _ _ _ (c .before .before .confirm .result)
-    (in-joining (a .words .now) (a .sums .now) (a .spread .now) (a .car) (a .run) _ _ _ state _ _ _ given (c .before .before .before .before .before .before .if1 .taken))
-    (comes-again (a .words .now) (a .sums .now) (a .spread .now) (a .out .now) _ _ (c .before .before .confirm .result) (a .car) (a .run) (a .octets .now) _ (c .before .before .before .before .config-of .ensures) (c .before .before .confirm .ensures) refl _ (sym state ∙ given))
+    (in-joining (a .words .now) (a .sums .now) (a .spread .now) (a .car) (a .run) _ _ _ state _ _ _ given (c .before .before .before .before .before .if1 .taken))
+    (comes-again (a .words .now) (a .sums .now) (a .spread .now) (a .out .now) _ _ (c .before .before .confirm .result) (a .car) (a .run) (a .octets .now) _ refl (c .before .before .confirm .ensures) refl _ (sym state ∙ given))
 
 returns-3 : tie.Need-returns-3
 returns-3 c =
@@ -84,7 +72,6 @@ match-req-spec =
     enum-told
     join-requires
     enum-known-state
-    config-of-requires
     confirm-requires
     refused-requires
     refused-requires-2
