@@ -1,10 +1,11 @@
 -- A frame on lent words and sums: what its parts come to, and the call's promise.
-use Prim.Native.Nat.{ℕ}
+use Prim.Native.Nat.{ℕ, min}
 use mathlib.Core.Path.{_≡_, refl, sym, ap, ap₂, _∙_, subst}
 use mathlib.Core.Bool.{Bool}
 use mathlib.Core.List.{List, [], _∷_}
 use denote.Enum.Declared.{tagOf}
 use lib.Dec.{ltb}
+use native.Mathlib.Omega.{arith}
 use lib.ListN.{length, getD, set}
 use types.Run.{OneOf}
 use Rattle.messages.specs.declared.CarAddress.{CarAddress}
@@ -53,7 +54,8 @@ use Rattle.station.proofs.ComesLaws.{state-other}
 use Rattle.station.proofs.OwnLaws.{AtOwn, own-none, own-settled}
 use Rattle.station.proofs.ParmLaws.{parm-answered}
 use Rattle.receiving.proofs.JudgeLaws.{taken, decided, decided-taken, frame-decided, judges, judged-octets}
-use Rattle.words.specs.Words.{configOf, identity, editionIn, stateOf, recordsOf, stationOf, withRecords}
+use Rattle.words.proofs.RecordWords.{length-records}
+use Rattle.words.specs.Words.{lastPlace, configOf, identity, editionIn, stateOf, recordsOf, stationOf, withRecords}
 use Rattle.words.proofs.Meant.{meant}
 use Rattle.lahzavar.specs.declared.Answered.{Answered}
 use Rattle.lahzavar.specs.Answers.{saidOf, answered}
@@ -96,6 +98,13 @@ comes-sent w s z entry exit v t y i k m a r h p e q =
 
 -- ---- what a car's request comes to, by what is read of the words
 
+-- the place of the car's own record is none past the last, so that its own record is read there
+pub own-read : (w s z : List ℕ) (c : CarAddress) (p : Found) (i : ℕ) (d r : Record) → ((u h : List ℕ) → p ≡ ownFrom c 0 (recordsOf w u h)) → p ≡ Own i → r ≡ getD (recordsOf w s z) (min i lastPlace) d → r ≡ getD (recordsOf w s z) i d
+own-read w s z c p i d r ep t e =
+    let inside = own-found c (recordsOf w s z) p i (ep s z) t .inside in
+    let same : min i lastPlace ≡ i = omega (arith, inside, length-records w s z) in
+    e ∙ ap (λ (k : ℕ). getD (recordsOf w s z) k d) same
+
 module _ (w s z : List ℕ) (c : CarAddress) where
   -- the rule of a request
   abbrev ruleOf : Request → Checked Done
@@ -129,9 +138,9 @@ module _ (w s z : List ℕ) (c : CarAddress) where
         takes-missing o = own-none (stationOf w s z) c m f at a (sym es ∙ t) (own-missing c (recordsOf w s z) p (ep s z) o)
 
         -- a message at the car's own record
-        pub takes-own : (i : ℕ) (d r : Record) (x : Checked Kept) → p ≡ Own i → r ≡ getD (recordsOf w s z) i d → x ≡ f r → settled (stationOf w s z) i c x ≡ ruleOf (forRecord m)
+        pub takes-own : (i : ℕ) (d r : Record) (x : Checked Kept) → p ≡ Own i → r ≡ getD (recordsOf w s z) (min i lastPlace) d → x ≡ f r → settled (stationOf w s z) i c x ≡ ruleOf (forRecord m)
         unfolding stationOf
-        takes-own i d r x e er ex = own-settled (stationOf w s z) c m f at i d x (a, sym es ∙ t) (own-found c (recordsOf w s z) p i (ep s z) e) (ex ∙ ap f er)
+        takes-own i d r x e er ex = own-settled (stationOf w s z) c m f at i d x (a, sym es ∙ t) (own-found c (recordsOf w s z) p i (ep s z) e) (ex ∙ ap f (own-read w s z c p i d r ep e er))
 
 -- ---- the call
 

@@ -1,5 +1,5 @@
 -- MATCH.REQ on lent words, by the tests that the code makes.
-use Prim.Native.Nat.{ℕ, _^_, _<_}
+use Prim.Native.Nat.{ℕ, _^_, _<_, min}
 use mathlib.Core.Path.{_≡_, sym, ap, ap₂, subst, _∙_}
 use mathlib.Core.Bool.{true, false, _&&_}
 use mathlib.Core.List.{List, [], _∷_, map}
@@ -41,11 +41,12 @@ use Rattle.station.specs.Frames.{Ready, joinRule}
 use Rattle.station.proofs.MatchLaws.{joins, join-none, join-own, match-matching, match-again, match-other, match-elsewhere}
 use Rattle.station.proofs.SendLaws.{match-cnf-writable}
 use Rattle.words.proofs.Meant.{meant}
-use Rattle.words.specs.Words.{configOf, editionIn, stateOf, pilotIn, clockIn, recordsOf, stationOf, withRecords, inState}
+use Rattle.words.specs.Words.{lastPlace, configOf, editionIn, stateOf, pilotIn, clockIn, recordsOf, stationOf, withRecords, inState}
 use Rattle.lahzavar.specs.declared.Answered.{Answered}
 use Rattle.lahzavar.specs.Answers.{saidOf}
 use Rattle.lahzavar.specs.Frames.{Comes, Replies}
 use Rattle.lahzavar.specs.Matching.{firstId, secondId, asking, confirming}
+use Rattle.lahzavar.proofs.FrameLaws.{own-read}
 
 -- ---- MATCH.CNF
 
@@ -121,9 +122,9 @@ module _ (w s z : List ℕ) (c : CarAddress) (run : RunId) (a b : List ℕ) wher
     join-missing o = join-none (stationOf w s z) c run a b (own-missing c (recordsOf w s z) p (ep s z) o)
 
     -- at the car's record, by its verdict
-    pub join-verdict : (i : ℕ) (d r : Record) (x : Checked (Unit {0})) → p ≡ Own i → r ≡ getD (recordsOf w s z) i d → x ≡ matchRule run (r ∷ []) → joinRule (stationOf w s z) c run a b ≡ joins (stationOf w s z) c run a b x
+    pub join-verdict : (i : ℕ) (d r : Record) (x : Checked (Unit {0})) → p ≡ Own i → r ≡ getD (recordsOf w s z) (min i lastPlace) d → x ≡ matchRule run (r ∷ []) → joinRule (stationOf w s z) c run a b ≡ joins (stationOf w s z) c run a b x
     unfolding stationOf
-    join-verdict i d r x e er ex = join-own (stationOf w s z) c run a b i d x (own-found c (recordsOf w s z) p i (ep s z) e) (ex ∙ ap (λ (k : Record). matchRule run (k ∷ [])) er)
+    join-verdict i d r x e er ex = join-own (stationOf w s z) c run a b i d x (own-found c (recordsOf w s z) p i (ep s z) e) (ex ∙ ap (λ (k : Record). matchRule run (k ∷ [])) (own-read w s z c p i d r ep e er))
 
   -- the rule
   abbrev ruleOf : Checked Done

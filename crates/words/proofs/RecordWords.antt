@@ -7,7 +7,7 @@ use native.Mathlib.Omega.{arith}
 use borrow.Author.Tests.{leb-true}
 use native.Mathlib.Nat.{add-zero}
 use lib.Dec.{eqb, leb}
-use lib.ListN.{length, getD, take, drop, set, length-drop, List·getD-eq-default}
+use lib.ListN.{length, getD, take, drop, set, length-drop}
 use lib.Seq.{sets, drop-drop}
 use Rattle.octets.specs.Octets.{part}
 use Rattle.messages.specs.Table.{groupCount, isUnicast}
@@ -206,7 +206,3 @@ module _ (w s x : List ℕ) (i : ℕ) (d : Record) (h : i < recordCount) where
       let same : r ≡ made =
       λ j. record { car = record { 0 = car j }; run = record { 0 = run j }; held = held j; phase = phase j; heard = heard j; profiles = profiles j; sums = sums j; spread = ex j; later = later j; groups = groups j } in
       same ∙ ap (λ (q : Edition). recordOf q v own (part x (spreadWidth * i) spreadWidth)) ee ∙ sym b
-
--- past the last place
-pub past-last : (w s x : List ℕ) (i : ℕ) (d : Record) → recordCount ≤ i → getD (recordsOf w s x) i d ≡ d
-past-last w s x i d h = let l : length (recordsOf w s x) ≤ i = rw (length-records w s x) h in List·getD-eq-default (recordsOf w s x) d l

@@ -40,6 +40,10 @@ width = 10
 abbrev pub wordCount : ℕ
 wordCount = headCount + width * recordCount
 
+-- the place of the last record
+abbrev pub lastPlace : ℕ
+lastPlace = recordCount - 1
+
 -- how many sums a station has
 abbrev pub sumCount : ℕ
 sumCount = groupCount * recordCount

@@ -9,9 +9,7 @@ mod whole;
 use messages::CarAddress;
 use messages::Edition;
 use messages::GROUPS;
-use records::changes;
 use records::find::Found;
-use records::timers;
 use rules::Configuration;
 use rules::Pilot;
 use rules::RECORDS;
@@ -20,14 +18,14 @@ use rules::State;
 use rules::Station;
 ghost use mathlib.Core.Path.{_≡_};
 ghost use mathlib.Core.List.{List, map};
-ghost use Prim.Native.Nat.{ℕ};
+ghost use Prim.Native.Nat.{ℕ, min};
 ghost use lib.ListN.{getD, set};
 ghost use Rattle.rules.specs.Invariant.{GoodRecord, Invariant};
 ghost use Rattle.rules.specs.Records.{freed};
 ghost use Rattle.rules.specs.Rules.{freeRecord};
 ghost use Rattle.rules.specs.Validation.{anyValidates};
 ghost use Rattle.records.specs.Places.{ownFrom, placeOf};
-ghost use Rattle.words.specs.Words.{configOf, identity, editionIn, stateOf, pilotIn, clockIn, recordsOf, heldCount, stationOf, withRecords, inState};
+ghost use Rattle.words.specs.Words.{lastPlace, configOf, identity, editionIn, stateOf, pilotIn, clockIn, recordsOf, heldCount, stationOf, withRecords, inState};
 ghost use Rattle.words.specs.Wiped.{Wiped};
 
 // How many words the head has.
@@ -127,21 +125,23 @@ pub fn held_count(words: &StationWords) -> u32
     search::held_count(words)
 }
 
-// The record at a place; past the last, a free one.
+// A place, or the last one where it is past that.
+fn within(i: usize) -> usize
+    ensures { λ k. ⌜ k ≡ min i lastPlace ⌝ }
+{
+    if i < RECORDS { i } else { RECORDS - 1 }
+}
+
+// The record at a place; past the last, the last one.
 pub fn record_at(
     words: &StationWords,
     sums: &StationSums,
     spread: &StationSpread,
     i: usize,
 ) -> Record
-    ensures { λ r. ⌜ (r ≡ getD (recordsOf (now (words .entry)) (now (sums .entry)) (now (spread .entry))) i freeRecord) × GoodRecord (editionIn (now (words .entry))) r ⌝ }
+    ensures { λ r. ⌜ (r ≡ getD (recordsOf (now (words .entry)) (now (sums .entry)) (now (spread .entry))) (min i lastPlace) freeRecord) × GoodRecord (editionIn (now (words .entry))) r ⌝ }
 {
-    if i < RECORDS {
-        one_record::read(words, sums, spread, i)
-    } else {
-        let fresh = changes::fresh(false, CarAddress(0), messages::RunId(0));
-        timers::freed(fresh)
-    }
+    one_record::read(words, sums, spread, within(i))
 }
 
 // Stores a record at its place; past the last, nothing.
