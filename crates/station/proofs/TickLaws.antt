@@ -1,12 +1,14 @@
 -- The tick call: what follows the elapsed time, and what it comes to in each state.
 use Prim.Native.Nat.{ℕ, zero, suc, _+_, _*_, _-_, _≤_}
 use mathlib.Core.Path.{_≡_, refl, sym, ap, ap₂, _∙_, subst}
-use mathlib.Core.Bool.{Bool, true, false, _&&_}
-use mathlib.Core.List.{List, [], map}
+use mathlib.Core.Bool.{Bool, true, false, cond, _&&_}
+use mathlib.Core.List.{List, [], _∷_, map}
 use native.Mathlib.Omega.{arith}
 use borrow.Author.Tests.{le-leb, lt-leb}
-use lib.Dec.{eqb, eqb·suc-zero}
+use denote.Enum.Declared.{tagOf}
+use lib.Dec.{eqb, leb, eqb·suc-zero}
 use lib.ListN.{length, take, drop}
+use types.Run.{OneOf, miss}
 use borrow.Rule.Slice.PartMut.{putMid}
 use Rattle.messages.specs.declared.CarAddress.{CarAddress}
 use Rattle.messages.specs.declared.RunId.{RunId}
@@ -14,9 +16,10 @@ use Rattle.messages.specs.Reading.{Checked, no, yes}
 use Rattle.ends.proofs.ClockLaws.{time-open}
 use Rattle.ends.specs.declared.Indication.{Indication}
 use Rattle.ends.specs.declared.Indication.the-variants.{Nothing, NoLink}
+use Rattle.rules.specs.declared.Configuration.{Configuration}
 use Rattle.rules.specs.declared.Record.{Record}
 use Rattle.rules.specs.declared.State.{State}
-use Rattle.rules.specs.declared.State.the-variants.{Unmatched, Matching, Joining}
+use Rattle.rules.specs.declared.State.the-variants.{Unmatched, Matching, Joining, Matched}
 use Rattle.rules.specs.declared.Station.{Station}
 use Rattle.rules.specs.declared.Stepped.{Stepped}
 use Rattle.rules.specs.Constants.{recordCount, leastOutput}
@@ -28,8 +31,11 @@ use Rattle.rules.specs.Events.{isB}
 use Rattle.rules.specs.Ticks.{tickElapsed, tickRecord, allFrames, admissionDone, joiningDone, tickDone}
 use Rattle.rules.specs.Rules.{rule, takesReading, sharedStep}
 use Rattle.rules.specs.Invariant.{Invariant}
+use Rattle.rules.proofs.State.{the-type}
 use Rattle.ends.proofs.Logic.{clash}
 use Rattle.station.specs.declared.all_records.TickedRecords.{TickedRecords}
+use Rattle.station.specs.declared.ticks.Passed.{Passed}
+use Rattle.station.specs.Passing.{passing}
 use Rattle.station.specs.Steps.{doneAs, sharedAs, anew, Gives}
 use Rattle.station.specs.Reports.{confirmationSize, Ready, Ticks, Confirms}
 use Rattle.station.proofs.StepLaws.{framed, no-frames, gives-as}
@@ -81,18 +87,51 @@ module _ (s : Station) (t e : ℕ) (r : Stepped) (out : List ℕ) where
       (sym (ap (λ (y : State). tickDone (s .config) (isB (s .pilot)) e y (s .records)) told ∙ q))
       (no-frames s (s .pilot) t st (s .records) x _ r out refl er)
 
-  module _ (l : ℕ) (c : CarAddress) (run : RunId) (told : s .state ≡ Joining l c run) (left : ℕ) (el : left ≡ l - e) where
-    -- Joining's time fires
-    pub joining-fires : left ≡ 0 → Read Unmatched NoLink → Ticked
-    unfolding tickDone joiningDone
-    joining-fires z q = tick-reads (Joining l c run) Unmatched NoLink told (ap (λ (b : Bool). joiningDone b (l - e) c run (s .records)) (le-leb l e (omega arith))) q
+-- ---- what a tick makes of a state by itself
 
-    -- it runs down
-    pub joining-runs : (left ≡ 0 → ⊥) → Read (Joining left c run) Nothing → Ticked
-    unfolding tickDone joiningDone
-    joining-runs z q =
-        tick-reads (Joining l c run) (Joining left c run) Nothing told
-        (ap (λ (b : Bool). joiningDone b (l - e) c run (s .records)) (lt-leb l e (omega arith)) ∙ ap (λ (n : ℕ). done (Joining n c run) (s .records) [] Nothing) (sym el)) q
+-- it stays
+pub passing-same : (e : ℕ) (st : State) → OneOf (0 ∷ 1 ∷ 3 ∷ []) (tagOf the-type st) → record { state = st; indication = Nothing } ≡ passing e st
+passing-same e Unmatched k = refl
+passing-same e (Matching t) k = refl
+passing-same e (Joining l c run) k = absurd (miss (0 ∷ 1 ∷ 3 ∷ []) 2 tt k)
+passing-same e (Matched c) k = refl
+
+module _ (e l : ℕ) (c : CarAddress) (run : RunId) (left : ℕ) (el : left ≡ l - e) where
+  abbrev fired : Passed
+  fired = record { state = Unmatched; indication = NoLink }
+
+  abbrev running : ℕ → Passed
+  running n = record { state = Joining n c run; indication = Nothing }
+
+  -- Joining's time fires
+  pub passing-fires : left ≡ 0 → fired ≡ passing e (Joining l c run)
+  passing-fires z = sym (ap (λ (b : Bool). cond b fired (running (l - e))) (le-leb l e (omega arith)))
+
+  -- it runs down
+  pub passing-runs : (left ≡ 0 → ⊥) → running left ≡ passing e (Joining l c run)
+  passing-runs z = ap running el ∙ sym (ap (λ (b : Bool). cond b fired (running (l - e))) (lt-leb l e (omega arith)))
+
+-- what is done where so much has passed, and nothing is sent
+abbrev doneWith : List Record → Passed → Done
+doneWith rs p = done (p .state) rs [] (p .indication)
+
+-- Joining's rule, by whether its time fires
+joining-passes : (b : Bool) (n : ℕ) (c : CarAddress) (run : RunId) (rs : List Record) → joiningDone b n c run rs ≡ doneWith rs (cond b (record { state = Unmatched; indication = NoLink }) (record { state = Joining n c run; indication = Nothing }))
+unfolding joiningDone
+joining-passes true n c run rs = refl
+joining-passes false n c run rs = refl
+
+-- elsewhere than in Matching it is what the rule gives
+state-passes : (o : Configuration) (b : Bool) (e : ℕ) (st : State) (rs : List Record) → OneOf (0 ∷ 2 ∷ 3 ∷ []) (tagOf the-type st) → tickDone o b e st rs ≡ doneWith rs (passing e st)
+unfolding tickDone
+state-passes o b e Unmatched rs k = refl
+state-passes o b e (Matching t) rs k = absurd (miss (0 ∷ 2 ∷ 3 ∷ []) 1 tt k)
+state-passes o b e (Joining l c run) rs k = joining-passes (leb l e) (l - e) c run rs
+state-passes o b e (Matched c) rs k = refl
+
+-- the same of what the code gives
+pub passed-done : (o : Configuration) (b : Bool) (e : ℕ) (st : State) (rs : List Record) (p : Passed) → p ≡ passing e st → OneOf (0 ∷ 2 ∷ 3 ∷ []) (tagOf the-type st) → tickDone o b e st rs ≡ done (p .state) rs [] (p .indication)
+passed-done o b e st rs p ep k = state-passes o b e st rs k ∙ ap (doneWith rs) (sym ep)
 
 -- ---- Matching
 

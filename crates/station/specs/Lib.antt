@@ -1,3 +1,4 @@
 pub mod Steps
 pub mod Frames
 pub mod Reports
+pub mod Passing

@@ -8,7 +8,7 @@ mod freeing;
 mod maps;
 mod reports;
 mod sending;
-mod ticks;
+pub mod ticks;
 mod validating;
 
 use ends::TickTime;

@@ -13,6 +13,45 @@ ghost use Rattle.rules.specs.Events.{isB};
 ghost use Rattle.rules.specs.Ticks.{tickDone};
 ghost use Rattle.station.specs.Steps.{doneAs, sharedAs, anew, Gives};
 ghost use Rattle.station.specs.Reports.{Ready};
+ghost use Rattle.station.specs.Passing.{passing};
+
+// A state after so many milliseconds, and what is indicated.
+pub struct Passed {
+    pub state: State,
+    pub indication: Indication,
+}
+
+// What so many milliseconds make of a state by itself: Joining's time runs; Matching's goes with its records, and the others have none.
+pub fn state_after(state: State, elapsed: u32) -> Passed
+    ensures { λ r. ⌜ r ≡ passing elapsed state ⌝ }
+{
+    let State::Joining {
+        left: time,
+        car,
+        run,
+    } = state
+    else {
+        return Passed {
+            state: state,
+            indication: Indication::Nothing,
+        };
+    };
+    let left = ends::left_after(time, elapsed);
+    if left == 0 {
+        return Passed {
+            state: State::Unmatched,
+            indication: Indication::NoLink,
+        };
+    }
+    Passed {
+        state: State::Joining {
+            left: left,
+            car: car,
+            run: run,
+        },
+        indication: Indication::Nothing,
+    }
+}
 
 // What so many milliseconds come to in the station's state.
 pub(crate) fn run(station: Station, reading: u32, elapsed: u32, out: &mut [u8]) -> Stepped
@@ -21,30 +60,13 @@ pub(crate) fn run(station: Station, reading: u32, elapsed: u32, out: &mut [u8]) 
 {
     let state = station.state;
     match state {
-        State::Unmatched => read(station, reading, State::Unmatched, Indication::Nothing),
         State::Matching(time) => matching(station, reading, elapsed, time, out),
-        State::Joining {
-            left: time,
-            car,
-            run,
-        } => {
-            let left = ends::left_after(time, elapsed);
-            if left == 0 {
-                read(station, reading, State::Unmatched, Indication::NoLink)
-            } else {
-                read(
-                    station,
-                    reading,
-                    State::Joining {
-                        left: left,
-                        car: car,
-                        run: run,
-                    },
-                    Indication::Nothing,
-                )
-            }
+        _ => {
+            let after = state_after(state, elapsed);
+            let next = after.state;
+            let indication = after.indication;
+            read(station, reading, next, indication)
         }
-        State::Matched(car) => { read(station, reading, State::Matched(car), Indication::Nothing) }
     }
 }
 
