@@ -40,36 +40,36 @@ use Rattle.lahzavar.specs.Events.{InWords, Frees}
 use Rattle.lahzavar.specs.Lent.{Leaves, Lent}
 
 -- what an accepted call without a frame is answered
-abbrev silent : Indication → Answered
+abbrev pub silent : Indication → Answered
 silent x = saidOf (yes (record { frames = 0; octets = 0; indication = x }))
 
 -- ---- a call, by what its rule gives
 
 module _ (w s z : List ℕ) (x : Call) (r : Answered) where
   -- an accepted call
-  accepted-lent : (v t y : List ℕ) (o : Shared) (d : Done) → sharedStep (shared (stationOf w s z)) x ≡ o → rule (shared (stationOf w s z)) (inner (stationOf w s z)) x ≡ yes d
-      → Leaves (build o (d .after)) (yes (d .sent)) w s z [] [] v t y r → Lent x w s z [] [] v t y r
+  pub accepted-lent : (entry exit v t y : List ℕ) (o : Shared) (d : Done) → sharedStep (shared (stationOf w s z)) x ≡ o → rule (shared (stationOf w s z)) (inner (stationOf w s z)) x ≡ yes d
+      → Leaves (build o (d .after)) (yes (d .sent)) w s z entry exit v t y r → Lent x w s z entry exit v t y r
   unfolding step outcome
-  accepted-lent v t y o d eo ed h =
-      subst (λ (q : Outcome). Leaves (step (stationOf w s z) x) q w s z [] [] v t y r) (sym (ap outcomeOf ed))
-      (subst (λ (n : Station). Leaves n (yes (d .sent)) w s z [] [] v t y r) (sym (ap₂ (λ (p : Shared) (u : Checked Done). build p (next (inner (stationOf w s z)) u)) eo ed)) h)
+  accepted-lent entry exit v t y o d eo ed h =
+      subst (λ (q : Outcome). Leaves (step (stationOf w s z) x) q w s z entry exit v t y r) (sym (ap outcomeOf ed))
+      (subst (λ (n : Station). Leaves n (yes (d .sent)) w s z entry exit v t y r) (sym (ap₂ (λ (p : Shared) (u : Checked Done). build p (next (inner (stationOf w s z)) u)) eo ed)) h)
 
   -- a refusal
-  refused-lent : (n : Refusal) → rule (shared (stationOf w s z)) (inner (stationOf w s z)) x ≡ no (numberOf n) → r ≡ saidOf (no (numberOf n)) → Lent x w s z [] [] w s z r
+  pub refused-lent : (out : List ℕ) (n : Refusal) → rule (shared (stationOf w s z)) (inner (stationOf w s z)) x ≡ no (numberOf n) → r ≡ saidOf (no (numberOf n)) → Lent x w s z out out w s z r
   unfolding outcome
-  refused-lent n e q =
+  refused-lent out n e q =
       let none : outcome (stationOf w s z) x ≡ no (numberOf n) = ap outcomeOf e in
       record {
         station = sym (refused-station (stationOf w s z) x (numberOf n) none);
         answer = q ∙ sym (ap answered none);
-        octets = sym (refused-output (stationOf w s z) x (numberOf n) [] none);
+        octets = sym (refused-output (stationOf w s z) x (numberOf n) out none);
         kept = λ h. (refl, (refl, refl));
       }
 
 -- a bad configuration
 pub unconfigured : (x : Call) (w : List ℕ) (o : Configuration) (r : Answered) → o ≡ configOf w → o .good ≡ false → r ≡ saidOf (no (numberOf BadConfiguration)) → InWords x w w r
 unfolding stationOf
-unconfigured x w o r eo g q s z = refused-lent w s z x r BadConfiguration (bad-refuses (shared (stationOf w s z)) (inner (stationOf w s z)) x (sym (ap (λ (c : Configuration). c .good) eo) ∙ g)) q
+unconfigured x w o r eo g q s z = refused-lent w s z x r [] BadConfiguration (bad-refuses (shared (stationOf w s z)) (inner (stationOf w s z)) x (sym (ap (λ (c : Configuration). c .good) eo) ∙ g)) q
 
 -- every record freed, and then the state, the pilot state and the clock stored
 pub frees : (w u v : List ℕ) (st : State) (p : Pilot) (n : ℕ) (x : Indication) (r : Answered) → ((s z : List ℕ) → stationOf u s z ≡ withRecords (stationOf w s z) (map freed (recordsOf w s z)))
@@ -93,7 +93,7 @@ module _ (w v : List ℕ) (o : Configuration) (r : Answered) (eo : o ≡ configO
   unfolding stationOf
   terminates p n ep en f s z =
       let here : Frees Unmatched (pilotIn w) (clockIn w) (lost (stateOf w)) w v r = subst (λ (k : ℕ). Frees Unmatched (pilotIn w) k (lost (stateOf w)) w v r) en (subst (λ (q : Pilot). Frees Unmatched q n (lost (stateOf w)) w v r) ep f) in
-      accepted-lent w s z terminate r v s z _ _ (same-shared (shared (stationOf w s z)) .0) (terminate-rule (stationOf w s z) (good s z)) (here s z)
+      accepted-lent w s z terminate r [] [] v s z _ _ (same-shared (shared (stationOf w s z)) .0) (terminate-rule (stationOf w s z) (good s z)) (here s z)
 
   module _ (st : State) (es : st ≡ stateOf w) where
     -- link up in Joining
@@ -101,7 +101,7 @@ module _ (w v : List ℕ) (o : Configuration) (r : Answered) (eo : o ≡ configO
         → InWords linkUp w v r
     unfolding stationOf splice joins
     links l c run p n e ep en b q s z =
-        accepted-lent w s z linkUp r v s z _ _ (same-shared (shared (stationOf w s z)) .1) (link-joining (stationOf w s z) (good s z) l c run (sym es ∙ e))
+        accepted-lent w s z linkUp r [] [] v s z _ _ (same-shared (shared (stationOf w s z)) .1) (link-joining (stationOf w s z) (good s z) l c run (sym es ∙ e))
         (record {
           station = b s z ∙ ap₂ (λ (a : Pilot) (k : ℕ). inState (Matched c) a k (stationOf w s z)) ep en;
           answer = q;
@@ -116,7 +116,7 @@ module _ (w v : List ℕ) (o : Configuration) (r : Answered) (eo : o ≡ configO
         → Lent (pilot p t) w s z [] [] v s z r
     unfolding stationOf takesPilot
     changes was is a b h =
-        accepted-lent w s z (pilot p t) r v s z _ _
+        accepted-lent w s z (pilot p t) r [] [] v s z _ _
         (pilot-shared (stationOf w s z) (good s z) p t ∙ ap₂ (λ (x y : Bool). sharedAs (stationOf w s z) p (cond (x && y) (clockIn w) t)) a b)
         (pilot-rule (stationOf w s z) (good s z) p t ∙ ap₂ (λ (x y : Bool). yes (pilotDone x y (turn (pilotIn w) p) (inner (stationOf w s z)))) a b)
         h
@@ -135,6 +135,6 @@ module _ (w v : List ℕ) (o : Configuration) (r : Answered) (eo : o ≡ configO
 pub not-linked : (w : List ℕ) (o : Configuration) (r : Answered) → o ≡ configOf w → o .good ≡ true → (st : State) → st ≡ stateOf w → OneOf (0 ∷ 1 ∷ 3 ∷ []) (tagOf the-type st) → r ≡ saidOf (no 8) → InWords linkUp w w r
 unfolding stationOf
 not-linked w o r eo g st es k q s z =
-    refused-lent w s z linkUp r WrongState
+    refused-lent w s z linkUp r [] WrongState
     (link-elsewhere (stationOf w s z) (sym (ap (λ (c : Configuration). c .good) eo) ∙ g) (subst (λ (x : State). OneOf (0 ∷ 1 ∷ 3 ∷ []) (tagOf the-type x)) es k))
     q

@@ -3,6 +3,7 @@ pub mod OctetsFit
 pub mod FrameLaws
 pub mod IdentityLaws
 pub mod EventLaws
+pub mod TickLaws
 pub mod MatchLaws
 pub mod MapLaws
 pub mod CountsFit

@@ -7,6 +7,7 @@ pub mod map_calls;
 mod maps;
 mod matching;
 mod storing;
+mod ticks;
 mod validating;
 
 use messages::CarAddress;
@@ -126,9 +127,7 @@ pub extern "C" fn lahzavar_tick(
 ) -> Answered
     ensures { λ r. ⌜ Lent (calls.tick reading (length (now (out .entry)))) (now (words .entry)) (now (sums .entry)) (now (spread .entry)) (now (out .entry)) (now (out .exit)) (now (words .exit)) (now (sums .exit)) (now (spread .exit)) r ⌝ }
 {
-    let station = words::unpack(words, sums, spread);
-    let stepped = station::tick(station, reading, out);
-    storing::settle(words, sums, spread, stepped)
+    ticks::tick(words, sums, spread, reading, out)
 }
 
 // The control pilot is at a state, 0 to 5 for A to F, at a clock reading.
