@@ -33,7 +33,7 @@ fn run(station: Station, count: u64, event: &mut [u8], out: &mut [u8])
 {
     let mut s = station;
     let mut left = count;
-    while left > 0 {
+    while script_io::goes_on(left) {
         let t = one_event(s, event, out);
         if !t.on {
             return;
@@ -41,7 +41,6 @@ fn run(station: Station, count: u64, event: &mut [u8], out: &mut [u8])
         s = t.station;
         left -= 1;
     }
-    script_io::end();
 }
 
 fn main() {

@@ -30,7 +30,7 @@ fn run(car: Car, count: u64, event: &mut [u8], out: &mut [u8])
 {
     let mut c = car;
     let mut left = count;
-    while left > 0 {
+    while script_io::goes_on(left) {
         let t = one_event(c, event, out);
         if !t.on {
             return;
@@ -38,7 +38,6 @@ fn run(car: Car, count: u64, event: &mut [u8], out: &mut [u8])
         c = t.car;
         left -= 1;
     }
-    script_io::end();
 }
 
 fn main() {

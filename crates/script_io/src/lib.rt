@@ -6,13 +6,16 @@ use libc::STDOUT_FILENO;
 use script::EVENT_OCTETS;
 use script::MOST_OCTETS;
 ghost use mathlib.Core.Path.{_≡_};
-ghost use mathlib.Core.Bool.{true};
+ghost use mathlib.Core.Bool.{true, false};
 ghost use Prim.Native.Nat.{_<_, _≤_};
 ghost use lib.ListN.{length};
 
-// Says that the input breaks the layout.
-pub fn broken() {
+// Says that the input breaks the layout: the script does not go on.
+pub fn broken() -> bool
+    ensures { λ r. ⌜ r ≡ false ⌝ }
+{
     io::write_all(STDERR_FILENO, b"the input breaks the layout of a script\n");
+    false
 }
 
 // Reads an event, and gives how many octets it has, or 0 where the input ends early, its length is over 4,096 or the slice is too short for it.
@@ -46,14 +49,19 @@ pub fn write_reply(out: &[u8], octets: usize) -> bool
             return io::write_all(STDOUT_FILENO, &out[0..octets]);
         }
     }
-    broken();
-    false
+    broken()
 }
 
-// The input is to end behind the last event.
-pub fn end() {
+// Whether the script goes on with so many events left; with none left the input is to end.
+pub fn goes_on(left: u64) -> bool
+    ensures { λ r. ⌜ (r ≡ true → 0 < left) × (r ≡ false → left ≡ 0) ⌝ }
+{
+    if left > 0 {
+        return true;
+    }
     let mut more = [0u8; 1];
     if io::read_full(STDIN_FILENO, &mut more) > 0 {
         broken();
     }
+    false
 }

@@ -15,6 +15,9 @@ abbrev μ-loop : tie.MeasureT-loop
 loop-holds : tie.Need-loop-holds Inv-loop μ-loop
 loop-holds c = search needs
 
+goes-on-requires : tie.Need-goes-on-requires Inv-loop μ-loop
+goes-on-requires c κs = search needs
+
 one-event-requires : tie.Need-one-event-requires Inv-loop μ-loop
 one-event-requires c κs = search needs
 
@@ -28,16 +31,13 @@ returns : tie.Need-returns Inv-loop μ-loop
 returns c = search needs
 
 sub-left : tie.Need-sub-left Inv-loop μ-loop
-sub-left c = search needs
+sub-left c = search (needs, c .before .before .before .before .before .before .before .before .before .before .before .goes-on .ensures .0 (c .before .before .before .before .before .before .before .before .before .before .if1 .taken))
 
 loop-less : tie.Need-loop-less Inv-loop μ-loop
-loop-less c = search needs
+loop-less c = search (needs, c .before .before .before .before .before .before .before .before .before .before .before .goes-on .ensures .0 (c .before .before .before .before .before .before .before .before .before .before .if1 .taken))
 
 loop-again : tie.Need-loop-again Inv-loop μ-loop
 loop-again c = search needs
-
-end-requires : tie.Need-end-requires Inv-loop μ-loop
-end-requires c κs = search needs
 
 same-length-3 : tie.Need-same-length-3 Inv-loop μ-loop
 same-length-3 c = search needs
@@ -55,6 +55,7 @@ run-spec =
     Inv-loop
     μ-loop
     loop-holds
+    goes-on-requires
     one-event-requires
     same-length
     same-length-2
@@ -62,7 +63,6 @@ run-spec =
     sub-left
     loop-less
     loop-again
-    end-requires
     same-length-3
     same-length-4
     returns-2)
