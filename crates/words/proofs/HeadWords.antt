@@ -39,7 +39,7 @@ SameHead v w = (j : ℕ) → j < headCount → getD v j 0 ≡ getD w j 0
 
 -- where what stands behind the state begins
 abbrev stateEnd : ℕ
-stateEnd = 12
+stateEnd = statePlace + length (stateWords Unmatched A 0)
 
 -- two lists whose heads are the same before the state and behind it have the same configuration
 config-kept : (v w : List ℕ) → ((j : ℕ) → j < statePlace → getD v j 0 ≡ getD w j 0) → ((j : ℕ) → stateEnd + j < headCount → getD v (stateEnd + j) 0 ≡ getD w (stateEnd + j) 0) → configOf v ≡ configOf w
