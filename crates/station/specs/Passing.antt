@@ -7,7 +7,7 @@ use Rattle.rules.specs.declared.State.{State}
 use Rattle.rules.specs.declared.State.the-variants.{Unmatched, Matching, Joining, Matched}
 use Rattle.station.specs.declared.ticks.Passed.{Passed}
 
--- a state after e milliseconds, and what is indicated: "Joining fires: Unmatched, no link"; what becomes of Matching is decided with its records
+-- a state after e milliseconds, and what is indicated: where "Joining fires" it is Unmatched and "no link"; what becomes of Matching is decided with its records
 abbrev pub passing : ℕ → State → Passed
 passing e Unmatched = record { state = Unmatched; indication = Nothing }
 passing e (Matching t) = record { state = Matching t; indication = Nothing }
