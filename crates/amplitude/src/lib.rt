@@ -1,4 +1,6 @@
 // Amplitude maps (ISO 15118-3 A.9.6 over HomePlug Green PHY): reading and writing their two messages, and the reductions that a map asks for.
+#![tactic(auto)]
+
 mod halves;
 mod levels;
 mod reader;
@@ -18,15 +20,15 @@ use messages::heads::{LEAST, TypeAnswer, padded_size, type_in};
 use messages::{Refusal, Written};
 
 // Whom a frame goes to: its destination as a number, first octet most significant.
-#[derive(Drop)]
+#[derive(Clone, Copy)]
 pub struct Receiver(pub u64);
 
 // Who sends it: its source.
-#[derive(Drop)]
+#[derive(Clone, Copy)]
 pub struct Sender(pub u64);
 
 // What reading gives: CM_AMP_MAP.REQ without its values, or CM_AMP_MAP.CNF.
-#[derive(Drop)]
+#[derive(Clone, Copy)]
 pub enum ReadAnswer {
     AmpMapReq {
         receiver: Receiver,
@@ -42,7 +44,7 @@ pub enum ReadAnswer {
 }
 
 // How many places of a slice were filled, one for each carrier.
-#[derive(Drop)]
+#[derive(Clone, Copy)]
 pub enum Filled {
     Carriers(usize),
     Refused(Refusal),

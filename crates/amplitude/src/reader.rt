@@ -24,7 +24,7 @@ pub(crate) const MAP: usize = 21;
 const RESULT_LIMIT: u64 = 2;
 
 // The addresses of a frame whose length and addresses are right, or a refusal.
-#[derive(Drop)]
+#[derive(Clone, Copy)]
 pub(crate) enum Addresses {
     Right(Receiver, Sender),
     Refused(Refusal),

@@ -1,4 +1,6 @@
 // Reads a script of calls on standard input and writes the replies to standard output, one event at a time.
+#![tactic(auto)]
+
 ghost use Rattle.rules.specs.Invariant.{Invariant};
 
 use libc::{STDIN_FILENO, STDOUT_FILENO};
@@ -6,7 +8,7 @@ use rules::Station;
 use script::HEAD_OCTETS;
 
 // The station after an event, and whether the script goes on.
-#[derive(Drop)]
+#[derive(Clone, Copy)]
 struct Turn {
     station: Station,
     on: bool,

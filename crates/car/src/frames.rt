@@ -15,7 +15,7 @@ use ends::{Indication, JOINING_TIME};
 use messages::{Edition, Nid, Nmk, Refusal, StationAddress};
 
 // What a message does in a state that takes it; a report's group values stand in the frame.
-#[derive(Drop)]
+#[derive(Clone, Copy)]
 pub(crate) enum Effect {
     Confirms,
     Stays,
@@ -25,7 +25,7 @@ pub(crate) enum Effect {
 }
 
 // An effect, or a refusal.
-#[derive(Drop)]
+#[derive(Clone, Copy)]
 pub(crate) enum EffectAnswer {
     Refused(Refusal),
     Taken(Effect),

@@ -17,7 +17,7 @@ use messages::{
 };
 
 // A station's message: PARM.CNF, a report with its sounds used, whose group values stand in the frame, MATCH.CNF, or one that no state takes.
-#[derive(Drop)]
+#[derive(Clone, Copy)]
 pub(crate) enum StationMessage {
     ParmCnf,
     Report(u8),
@@ -29,7 +29,7 @@ pub(crate) enum StationMessage {
 const UNKNOWN_TYPE: u32 = 3;
 
 // A station's message to us, with its run: 0 where it has none.
-#[derive(Drop)]
+#[derive(Clone, Copy)]
 pub(crate) struct Received {
     pub station: StationAddress,
     pub run: RunId,
@@ -37,7 +37,7 @@ pub(crate) struct Received {
 }
 
 // A refusal, or a station's message.
-#[derive(Drop)]
+#[derive(Clone, Copy)]
 pub(crate) enum Judged {
     Refused(Refusal),
     Taken(Received),

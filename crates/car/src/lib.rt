@@ -1,4 +1,6 @@
 // A car's calls, by value: each gives the car afterwards and an answer.
+#![tactic(auto)]
+
 mod cars;
 mod choice;
 mod frames;

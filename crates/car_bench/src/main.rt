@@ -1,4 +1,6 @@
 // Reads a script of a car's calls on standard input and writes the replies to standard output, one event at a time.
+#![tactic(auto)]
+
 ghost use Rattle.car_rules.specs.Invariant.{Invariant};
 
 use car_rules::Car;
@@ -6,7 +8,7 @@ use libc::{STDIN_FILENO, STDOUT_FILENO};
 use script::of_car::HEAD_OCTETS;
 
 // The car after an event, and whether the script goes on.
-#[derive(Drop)]
+#[derive(Clone, Copy)]
 struct Turn {
     car: Car,
     on: bool,

@@ -1,4 +1,6 @@
 // The car's types, configuring it, and the key query. What its calls do stands in specs/.
+#![tactic(auto)]
+
 ghost use Rattle.std.specs.Prelude.{◌≡◌};
 ghost use Rattle.car_rules.specs.Answers.{key_of, Configures};
 ghost use Rattle.car_rules.specs.Cars.{no_reports};
@@ -38,7 +40,7 @@ pub const MOST_REFERENCE: u32 = 255;
 pub const LEAST_OUTPUT: usize = 85;
 
 // What a car is configured with; good is false where it was refused.
-#[derive(Drop)]
+#[derive(Clone, Copy)]
 pub struct Configuration {
     pub good: bool,
     pub address: CarAddress,
@@ -46,7 +48,7 @@ pub struct Configuration {
 }
 
 // What a MATCH.CNF gives: the station, its NID and its NMK.
-#[derive(Drop)]
+#[derive(Clone, Copy)]
 pub struct Key {
     pub station: StationAddress,
     pub nid: Nid,
@@ -54,7 +56,7 @@ pub struct Key {
 }
 
 // The car's state, with what it carries: times left, retries left, and in Sounding the frames sent and the time to the next.
-#[derive(Drop)]
+#[derive(Clone, Copy)]
 pub enum State {
     Idle,
     Asking {
@@ -80,7 +82,7 @@ pub enum State {
 }
 
 // A station's first report: the sum of its group values.
-#[derive(Drop)]
+#[derive(Clone, Copy)]
 pub struct Report {
     pub station: StationAddress,
     pub total: u16,
@@ -90,7 +92,7 @@ pub struct Report {
 pub type ReportArray = [Report; STATIONS];
 
 // A car's side of SLAC matching; the clock is the last reading taken, run and random value those of the last start.
-#[derive(Drop)]
+#[derive(Clone, Copy)]
 pub struct Car {
     pub config: Configuration,
     pub state: State,
@@ -102,14 +104,14 @@ pub struct Car {
 }
 
 // The car after a call, and what the call gives.
-#[derive(Drop)]
+#[derive(Clone, Copy)]
 pub struct Stepped {
     pub car: Car,
     pub answer: Answer,
 }
 
 // What the key query gives.
-#[derive(Drop)]
+#[derive(Clone, Copy)]
 pub enum KeyAnswer {
     Refused(Refusal),
     Given(Key),

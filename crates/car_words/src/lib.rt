@@ -1,4 +1,6 @@
 // A car lent as plain words, a field to a word, of any content.
+#![tactic(auto)]
+
 mod fields;
 mod head;
 mod reports;

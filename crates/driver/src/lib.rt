@@ -1,4 +1,6 @@
 // A charging station's calls in place: each is lent the station and stores the one that the call by value returned.
+#![tactic(auto)]
+
 ghost use Rattle.std.specs.Prelude.{[], length};
 ghost use Rattle.rules.specs.Calls as calls;
 ghost use Rattle.rules.specs.Invariant.{Invariant};

@@ -1,4 +1,6 @@
 // What both ends of the wire share: what a call gives, the clock, a message sent, and fields and runs of words.
+#![tactic(auto)]
+
 pub mod fields;
 pub mod runs;
 
@@ -27,7 +29,7 @@ pub const JOINING_TIME: u32 = 12000;
 pub const LONGEST_GAP: u32 = 60000;
 
 // What a call tells besides its frames; the first three at either end, the others at the car's.
-#[derive(Drop)]
+#[derive(Clone, Copy)]
 pub enum Indication {
     Nothing,
     NoLink,
@@ -39,7 +41,7 @@ pub enum Indication {
 }
 
 // What a call gives: a refusal, or how many frames of how many octets in all stand in the output.
-#[derive(Drop)]
+#[derive(Clone, Copy)]
 pub enum Answer {
     Refused(Refusal),
     Done {
@@ -50,7 +52,7 @@ pub enum Answer {
 }
 
 // The time between the last reading and a tick's, or a refusal.
-#[derive(Drop)]
+#[derive(Clone, Copy)]
 pub enum TickTime {
     Refused(Refusal),
     Elapsed(u32),

@@ -17,7 +17,7 @@ use messages::{CarAddress, Random, RunId};
 
 // The key query's answer: the refusal's number or 0, the station's address, its NID, and the first and last eight octets of its NMK.
 #[repr(C)]
-#[derive(Drop)]
+#[derive(Clone, Copy)]
 pub struct KeyAnswered {
     pub refusal: u32,
     pub station: u64,

@@ -1,4 +1,6 @@
 // A station for C and Rust to link: lent as words and sums, answered in plain numbers.
+#![tactic(auto)]
+
 mod answers;
 pub mod car_calls;
 mod events;
@@ -28,7 +30,7 @@ const VERSION: u32 = 65536 * 0 + 256 * 8 + 0;
 
 // A call's answer: the refusal's number or 0; an indication (0 none, 1 no link, 2 link established); how many frames of how many octets in all.
 #[repr(C)]
-#[derive(Drop)]
+#[derive(Clone, Copy)]
 pub struct Answered {
     pub refusal: u32,
     pub indication: u32,
@@ -38,7 +40,7 @@ pub struct Answered {
 
 // The service query's answer: the refusal's number or 0, and the sounds heard.
 #[repr(C)]
-#[derive(Drop)]
+#[derive(Clone, Copy)]
 pub struct Heard {
     pub refusal: u32,
     pub sounds: u32,
@@ -46,7 +48,7 @@ pub struct Heard {
 
 // The inspection's answer: the refusal's number or 0, the state's number, and the car in Joining and Matched, else 0.
 #[repr(C)]
-#[derive(Drop)]
+#[derive(Clone, Copy)]
 pub struct Inspected {
     pub refusal: u32,
     pub state: u32,

@@ -20,7 +20,7 @@ const CONFIRMATION: u32 = 0x601D;
 
 // What a frame of amplitude maps says: the refusal's number or 0, the type, destination and source, the carriers of a request, the result of a confirmation.
 #[repr(C)]
-#[derive(Drop)]
+#[derive(Clone, Copy)]
 pub struct MapRead {
     pub refusal: u32,
     pub kind: u32,
@@ -32,7 +32,7 @@ pub struct MapRead {
 
 // The refusal's number or 0, and how many places of a lent slice were filled.
 #[repr(C)]
-#[derive(Drop)]
+#[derive(Clone, Copy)]
 pub struct Counted {
     pub refusal: u32,
     pub count: u32,

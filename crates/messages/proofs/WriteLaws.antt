@@ -351,22 +351,22 @@ head_in e (SlacMatchCnf s c r n k) b = to_one kind.SlacMatchCnf 0 c.0 s.0 true (
 head_in e (AttenProfileInd m s c g) b = to_one kind.AttenProfileInd g s.0 m.0 (is_unicast c.0) (groups_right e g b)
 
 module _ (e : Edition) (b : Beside) (w : Whole b) where
-  head_in : (m : Message) → Typed m → HeadOf (head_in e m b) (message_of e m b)
-  head_in (SlacParmReq c r) t = record { kind = refl; count = refl; dst = refl; src = refl; addressed = sym (and-true _); limited = limits e b w (SlacParmReq c r) t }
-  head_in (SlacParmCnf s c u r) t = record { kind = refl; count = refl; dst = refl; src = refl; addressed = and-true _; limited = limits e b w (SlacParmCnf s c u r) t }
-  head_in (StartAttenCharInd c u r) t = record { kind = refl; count = refl; dst = refl; src = refl; addressed = sym (and-true _); limited = limits e b w (StartAttenCharInd c u r) t }
-  head_in (AttenCharInd s c r n g) t = record { kind = refl; count = refl; dst = refl; src = refl; addressed = and-true _; limited = limits e b w (AttenCharInd s c r n g) t }
-  head_in (AttenCharRsp c s r) t = record { kind = refl; count = refl; dst = refl; src = refl; addressed = and-true _; limited = limits e b w (AttenCharRsp c s r) t }
-  head_in (MnbcSoundInd c n r x) t = record { kind = refl; count = refl; dst = refl; src = refl; addressed = sym (and-true _); limited = limits e b w (MnbcSoundInd c n r x) t }
-  head_in (ValidateReq c x d) t = record { kind = refl; count = refl; dst = refl; src = refl; addressed = refl; limited = limits e b w (ValidateReq c x d) t }
-  head_in (ValidateCnf s n c x) t = record { kind = refl; count = refl; dst = refl; src = refl; addressed = and-true _; limited = limits e b w (ValidateCnf s n c x) t }
-  head_in (SlacMatchReq c s r) t = record { kind = refl; count = refl; dst = refl; src = refl; addressed = and-true _; limited = limits e b w (SlacMatchReq c s r) t }
-  head_in (SlacMatchCnf s c r n k) t = record { kind = refl; count = refl; dst = refl; src = refl; addressed = and-true _; limited = limits e b w (SlacMatchCnf s c r n k) t }
-  head_in (AttenProfileInd m s c g) t = record { kind = refl; count = refl; dst = refl; src = refl; addressed = refl; limited = limits e b w (AttenProfileInd m s c g) t }
+  head_in_lem : (m : Message) → Typed m → HeadOf (head_in e m b) (message_of e m b)
+  head_in_lem (SlacParmReq c r) t = record { kind = refl; count = refl; dst = refl; src = refl; addressed = sym (and-true _); limited = limits e b w (SlacParmReq c r) t }
+  head_in_lem (SlacParmCnf s c u r) t = record { kind = refl; count = refl; dst = refl; src = refl; addressed = and-true _; limited = limits e b w (SlacParmCnf s c u r) t }
+  head_in_lem (StartAttenCharInd c u r) t = record { kind = refl; count = refl; dst = refl; src = refl; addressed = sym (and-true _); limited = limits e b w (StartAttenCharInd c u r) t }
+  head_in_lem (AttenCharInd s c r n g) t = record { kind = refl; count = refl; dst = refl; src = refl; addressed = and-true _; limited = limits e b w (AttenCharInd s c r n g) t }
+  head_in_lem (AttenCharRsp c s r) t = record { kind = refl; count = refl; dst = refl; src = refl; addressed = and-true _; limited = limits e b w (AttenCharRsp c s r) t }
+  head_in_lem (MnbcSoundInd c n r x) t = record { kind = refl; count = refl; dst = refl; src = refl; addressed = sym (and-true _); limited = limits e b w (MnbcSoundInd c n r x) t }
+  head_in_lem (ValidateReq c x d) t = record { kind = refl; count = refl; dst = refl; src = refl; addressed = refl; limited = limits e b w (ValidateReq c x d) t }
+  head_in_lem (ValidateCnf s n c x) t = record { kind = refl; count = refl; dst = refl; src = refl; addressed = and-true _; limited = limits e b w (ValidateCnf s n c x) t }
+  head_in_lem (SlacMatchReq c s r) t = record { kind = refl; count = refl; dst = refl; src = refl; addressed = and-true _; limited = limits e b w (SlacMatchReq c s r) t }
+  head_in_lem (SlacMatchCnf s c r n k) t = record { kind = refl; count = refl; dst = refl; src = refl; addressed = and-true _; limited = limits e b w (SlacMatchCnf s c r n k) t }
+  head_in_lem (AttenProfileInd m s c g) t = record { kind = refl; count = refl; dst = refl; src = refl; addressed = refl; limited = limits e b w (AttenProfileInd m s c g) t }
 
   -- as the code finds it: the message is m', and h is the head of m'
   pub headed : (h : Head) (m m' : Message) → m ≡ m' → Typed m' → h ≡ head_in e m' b → HeadOf h (message_of e m b)
-  headed h m m' r t q = subst (λ (x : Head). HeadOf x (message_of e m b)) (sym q) (subst (λ (x : Message). HeadOf (head_in e m' b) (message_of e x b)) (sym r) (head_in m' t))
+  headed h m m' r t q = subst (λ (x : Head). HeadOf x (message_of e m b)) (sym q) (subst (λ (x : Message). HeadOf (head_in e m' b) (message_of e x b)) (sym r) (head_in_lem m' t))
 
 -- ---- the order of writing's refusals
 

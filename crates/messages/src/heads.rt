@@ -16,7 +16,7 @@ pub const HEAD: usize = 19;
 pub const LEAST: usize = 60;
 
 // The type that a frame's head names, or a refusal.
-#[derive(Drop)]
+#[derive(Clone, Copy)]
 pub enum TypeAnswer {
     Type(u64),
     Refused(Refusal),

@@ -10,7 +10,7 @@ use crate::group_values::count_at;
 use crate::heads::{HEAD, TypeAnswer};
 use crate::{Edition, GROUPS, Refusal, heads};
 
-#[derive(Drop)]
+#[derive(Clone, Copy)]
 pub(crate) enum Kind {
     SlacParmReq,
     SlacParmCnf,
@@ -26,7 +26,7 @@ pub(crate) enum Kind {
 }
 
 // The kind of a frame with its group count, or a refusal.
-#[derive(Drop)]
+#[derive(Clone, Copy)]
 pub(crate) enum KindAnswer {
     Found(Kind, usize),
     Refused(Refusal),

@@ -1,4 +1,6 @@
 // The eleven messages of SLAC matching, the nine and the two of validation (ISO 15118-3 Annex A and SAE J2931/4 over HomePlug Green PHY): reading and writing their frames.
+#![tactic(auto)]
+
 mod editions;
 mod group_values;
 pub mod heads;
@@ -17,46 +19,46 @@ ghost use Rattle.messages.specs.Answers.{number_of, message_of, besides, answer_
 use kinds::KindAnswer;
 
 // A charging station's address: its six octets as a number, first octet most significant.
-#[derive(Drop)]
+#[derive(Clone, Copy)]
 pub struct StationAddress(pub u64);
 
 // A car's address.
-#[derive(Drop)]
+#[derive(Clone, Copy)]
 pub struct CarAddress(pub u64);
 
 // The address of the modem that a station is driven through.
-#[derive(Drop)]
+#[derive(Clone, Copy)]
 pub struct ModemAddress(pub u64);
 
 // Whom a validate request goes to: one station, or all.
-#[derive(Drop)]
+#[derive(Clone, Copy)]
 pub struct Receiver(pub u64);
 
 // The RunID of one matching: its eight octets as a number, first octet most significant.
-#[derive(Drop)]
+#[derive(Clone, Copy)]
 pub struct RunId(pub u64);
 
 // The network ID: its seven octets as a number, low octet first; below 2^54 where it is a valid one.
-#[derive(Drop)]
+#[derive(Clone, Copy)]
 pub struct Nid(pub u64);
 
 // The network membership key: its first and its last eight octets.
-#[derive(Drop)]
+#[derive(Clone, Copy)]
 pub struct Nmk(pub u64, pub u64);
 
 // The random value of M-SOUND: its first and its last eight octets.
-#[derive(Drop)]
+#[derive(Clone, Copy)]
 pub struct Random(pub u64, pub u64);
 
 // Whose tables hold: ISO 15118-3 or SAE J2931/4.
-#[derive(Drop)]
+#[derive(Clone, Copy)]
 pub enum Edition {
     Iso,
     Sae,
 }
 
 // NUM_SOUNDS and Time_Out of a try, as their two octets stand.
-#[derive(Drop)]
+#[derive(Clone, Copy)]
 pub struct Attempt(pub u64);
 
 // How many group values ATTEN_PROFILE has at most.
@@ -73,14 +75,14 @@ pub type IdOctets = [u8; ID_OCTETS];
 
 // The identifiers of a message, in the order of their octets: SENDER_ID; SOURCE_ID and RESP_ID; the vehicle's and the station's.
 // Zeros where a message has none, and in the ISO edition.
-#[derive(Drop)]
+#[derive(Clone, Copy)]
 pub struct Ids {
     pub first: IdOctets,
     pub second: IdOctets,
 }
 
 // Why a call gives no answer, in the order of the numbers from 1 on.
-#[derive(Drop)]
+#[derive(Clone, Copy)]
 pub enum Refusal {
     TooShort,
     BadHead,
@@ -109,7 +111,7 @@ pub enum Refusal {
 }
 
 // A message without its group values and its identifiers.
-#[derive(Drop)]
+#[derive(Clone, Copy)]
 pub enum Message {
     SlacParmReq {
         car: CarAddress,
@@ -176,14 +178,14 @@ pub enum Message {
 }
 
 // What reading gives.
-#[derive(Drop)]
+#[derive(Clone, Copy)]
 pub enum ReadAnswer {
     Read(Message),
     Refused(Refusal),
 }
 
 // What writing gives: how many octets the frame takes.
-#[derive(Drop)]
+#[derive(Clone, Copy)]
 pub enum Written {
     Octets(usize),
     Refused(Refusal),

@@ -20,7 +20,7 @@ use crate::{
 use octets::{is_zero, put_low_number, put_number};
 
 // What a frame's head says, whether its addresses are of the right kind (else 5), and whether the message's values fit (else 6).
-#[derive(Drop)]
+#[derive(Clone, Copy)]
 pub(crate) struct Head {
     pub kind: Kind,
     pub count: usize,

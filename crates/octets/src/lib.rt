@@ -1,5 +1,7 @@
 // Runs of octets, each function once over place and length. An octet past the end reads as 0, and a store past the end changes
 // nothing, so that no caller has to check first.
+#![tactic(auto)]
+
 ghost use Rattle.std.specs.Prelude.{◌≡◌, ◌+◌, ◌-◌, ◌*◌, ◌<◌, ◌≤◌, min, eqb, length, get_or, set};
 ghost use Rattle.std.proofs.lemmas.List.Edits.{sets};
 ghost use Rattle.octets.specs.Octets.{value, bytes, low_value, low_bytes, part};

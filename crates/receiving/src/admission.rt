@@ -6,7 +6,7 @@ use messages::{Edition, Refusal, RunId};
 use records::find::Found;
 
 // The place of the car's record, or a refusal.
-#[derive(Drop)]
+#[derive(Clone, Copy)]
 pub enum Admission {
     At(usize),
     Refused(Refusal),

@@ -13,7 +13,7 @@ use records::requests::RunMessage;
 use rules::{Configuration, LEAST_OUTPUT};
 
 // What concerns a record that the car has: START, SOUND or RSP of a run, PROFILE with its group count, whose values stand in the frame, or the second VALIDATE.REQ with its timer.
-#[derive(Drop)]
+#[derive(Clone, Copy)]
 pub enum OwnMessage {
     Run { run: RunId, message: RunMessage },
     Profile(usize),
@@ -21,7 +21,7 @@ pub enum OwnMessage {
 }
 
 // What a car's frame asks for: PARM.REQ, a message at its own record, the first VALIDATE.REQ, whose answer looks at all records, or MATCH.REQ, whose identifiers stand in the frame.
-#[derive(Drop)]
+#[derive(Clone, Copy)]
 pub enum Request {
     Parm(RunId),
     Own(OwnMessage),
@@ -30,14 +30,14 @@ pub enum Request {
 }
 
 // A refusal, or a car's request.
-#[derive(Drop)]
+#[derive(Clone, Copy)]
 pub enum Judged {
     Refused(Refusal),
     Taken { car: CarAddress, request: Request },
 }
 
 // A refusal, or AMP_MAP.REQ of a car with its number of carriers.
-#[derive(Drop)]
+#[derive(Clone, Copy)]
 pub enum MapJudged {
     Refused(Refusal),
     Asked { car: CarAddress, carriers: usize },

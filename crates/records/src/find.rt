@@ -9,7 +9,7 @@ use rules::{RECORDS, RecordArray};
 pub type Records = RecordArray;
 
 // The place of the car's own record, or else the first free place, or neither.
-#[derive(Drop)]
+#[derive(Clone, Copy)]
 pub enum Found {
     Own(usize),
     Free(usize),

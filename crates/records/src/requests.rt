@@ -14,7 +14,7 @@ use rules::{
 };
 
 // What follows a message at a record: a refusal, no reply, or the report of the record.
-#[derive(Drop)]
+#[derive(Clone, Copy)]
 pub enum Effect {
     Refused(Refusal),
     NoReply,
@@ -22,14 +22,14 @@ pub enum Effect {
 }
 
 // The record after a message, unchanged where it is refused, and what follows.
-#[derive(Drop)]
+#[derive(Clone, Copy)]
 pub struct Kept {
     pub kept: Record,
     pub effect: Effect,
 }
 
 // The messages that name the run of a record: START with its try's pair, SOUND with its count, RSP.
-#[derive(Drop)]
+#[derive(Clone, Copy)]
 pub enum RunMessage {
     Start(Attempt),
     Sound(u8),
@@ -37,14 +37,14 @@ pub enum RunMessage {
 }
 
 // Whether a message is accepted.
-#[derive(Drop)]
+#[derive(Clone, Copy)]
 pub enum Verdict {
     Refused(Refusal),
     Accepted,
 }
 
 // The record after the first VALIDATE.REQ, unchanged where it is refused, and whether it is accepted.
-#[derive(Drop)]
+#[derive(Clone, Copy)]
 pub struct Validated {
     pub kept: Record,
     pub verdict: Verdict,

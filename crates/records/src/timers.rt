@@ -11,7 +11,7 @@ use ends::RETRIES;
 use rules::{Phase, REPORTED_TIME, Record, SUCCESS_TIME};
 
 // A record after a tick, and whether it reports.
-#[derive(Drop)]
+#[derive(Clone, Copy)]
 pub struct AfterTick {
     pub after: Record,
     pub reports: bool,

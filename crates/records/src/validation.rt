@@ -15,7 +15,7 @@ use rules::{
 };
 
 // What a tick confirms to a record's car: nothing, or the toggles and the result.
-#[derive(Drop)]
+#[derive(Clone, Copy)]
 pub enum Confirmation {
     Nothing,
     Cnf { toggles: u8, result: u8 },

@@ -2,11 +2,11 @@
 ghost use Rattle.std.specs.Prelude.{◌≤◌};
 
 use crate::{items, text};
-use log::{Cause, EVENTS_START, Head, MOST_OCTETS};
+use session_log::{Cause, EVENTS_START, Head, MOST_OCTETS};
 
 // The sentence for the first setting of a log's configuration that is neither 1 nor 0.
 fn say_setting(log: &[u8]) {
-    let configuration = log::configuration_in(log);
+    let configuration = session_log::configuration_in(log);
     if 1 < configuration.exemption {
         text::say(b"octet 55: whether validation is not required is neither 1 nor 0\n");
     } else {
@@ -68,7 +68,7 @@ fn applies(number: u32, head: Head, octet: u8) -> bool {
 
 // Whether it applies to the event or to the reply at a place.
 fn applies_at(number: u32, log: &[u8], at: usize) -> bool {
-    let head = log::head_at(log, at);
+    let head = session_log::head_at(log, at);
     let own = items::own_octets(log, at);
     let octet = octets::octet_at(log, own.start);
     applies(number, head, octet)
@@ -93,7 +93,7 @@ fn items_before(number: u32, log: &[u8], from: usize, count: usize) -> usize
 
 // Says the number, from 1, of the event or of the reply that a cause concerns, and the octet where the wrong field starts.
 fn say_item(name: &[u8], number: u32, log: &[u8], from: usize) {
-    let count = text::wide(log::head_at(log, 0)[0]);
+    let count = text::wide(session_log::head_at(log, 0)[0]);
     let before = items_before(number, log, from, count);
     let at = items::place(log, from, before);
     text::say(name);
@@ -107,10 +107,10 @@ fn say_item(name: &[u8], number: u32, log: &[u8], from: usize) {
 
 // Says which field of a log is wrong.
 pub(crate) fn tell(log: &[u8], cause: Cause) {
-    let number = log::cause_number(cause);
+    let number = session_log::cause_number(cause);
     match number {
         9 | 10 | 11 | 12 => say_item(b"event ", number, log, EVENTS_START),
-        13 | 14 => say_item(b"reply ", number, log, text::wide(log::head_at(log, 12)[0])),
+        13 | 14 => say_item(b"reply ", number, log, text::wide(session_log::head_at(log, 12)[0])),
         _ => (),
     }
     say_cause(number, log);

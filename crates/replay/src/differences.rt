@@ -3,7 +3,7 @@ ghost use Rattle.std.specs.Prelude.{◌<◌};
 ghost use Rattle.rules.specs.Invariant.{Invariant};
 
 use crate::{items, text};
-use log::{EVENTS_START, ReadAnswer};
+use session_log::{EVENTS_START, ReadAnswer};
 use rules::{LEAST_OUTPUT, Station};
 use script::{Happened, REPLY_OCTETS};
 
@@ -12,7 +12,7 @@ fn one_event(station: Station, log: &[u8], at: usize, out: &mut [u8]) -> Happene
     requires { Invariant station }
     ensures { Invariant result.station }
 {
-    let head = log::head_at(log, at);
+    let head = session_log::head_at(log, at);
     let own = items::own_octets(log, at);
     let start = own.start;
     let end = own.end;
@@ -58,7 +58,7 @@ fn say_kind(kind: u32) {
 
 // Says which event it is: its number, its kind and its reading.
 fn say_event(number: usize, log: &[u8], at: usize) {
-    let head = log::head_at(log, at);
+    let head = session_log::head_at(log, at);
     text::say(b"event ");
     text::number(number as u64);
     say_kind(head[0]);
@@ -69,7 +69,7 @@ fn say_event(number: usize, log: &[u8], at: usize) {
 
 // Says refusal, indication and length of a reply.
 fn say_head(name: &[u8], reply: &[u8]) {
-    let head = log::head_at(reply, 0);
+    let head = session_log::head_at(reply, 0);
     text::say(name);
     text::say(b"refusal ");
     text::number(head[0] as u64);
@@ -116,11 +116,11 @@ fn say_difference(log: &[u8], at: usize, out: &[u8], octets: usize) {
 pub(crate) fn tell(log: &[u8], number: usize, out: &mut [u8])
     requires { 0 < number }
 {
-    let read = log::read(log);
+    let read = session_log::read(log);
     let ReadAnswer::Read(places) = read else {
         return;
     };
-    let station = replaying::station_of(log::configuration_in(log));
+    let station = replaying::station_of(session_log::configuration_in(log));
     let octets = run(station, log, number, out);
     say_event(number, log, items::place(log, places.events, number - 1));
     say_difference(

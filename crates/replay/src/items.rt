@@ -2,10 +2,10 @@
 ghost use Rattle.replay.specs.Spans.{Within};
 
 use crate::text;
-use log::ITEM_OCTETS;
+use session_log::ITEM_OCTETS;
 
 // Where the own octets of an event or of a reply start and end.
-#[derive(Drop)]
+#[derive(Clone, Copy)]
 pub(crate) struct Span {
     pub(crate) start: usize,
     pub(crate) end: usize,
@@ -16,7 +16,7 @@ pub(crate) fn own_octets(log: &[u8], at: usize) -> Span
     ensures { Within result log.now }
 {
     let size = log.len();
-    let head = log::head_at(log, at);
+    let head = session_log::head_at(log, at);
     let length = text::wide(head[2]);
     if at <= size {
         let left = size - at;

@@ -1,15 +1,17 @@
 // Reads a log on standard input, replays it and prints the first event that differs, from 1, or 0, or minus the cause by which the
 // log is refused. What the answer means is said on standard error.
+#![tactic(auto)]
+
 mod causes;
 mod differences;
 mod items;
 mod text;
 
 ghost use Rattle.std.specs.Prelude.{◌≡◌, ◌+◌, length};
-ghost use Rattle.log.specs.Layout.{most_octets};
+ghost use Rattle.session_log.specs.Layout.{most_octets};
 
 use libc::{STDIN_FILENO, STDOUT_FILENO};
-use log::MOST_OCTETS;
+use session_log::MOST_OCTETS;
 use replaying::Replayed;
 
 // One octet more than a log may have: a longer input is refused like it.
@@ -37,7 +39,7 @@ fn answer(log: &[u8], out: &mut [u8]) {
     match replayed {
         Replayed::Refused(cause) => {
             io::write_all(STDOUT_FILENO, b"-");
-            print(log::cause_number(cause) as u64);
+            print(session_log::cause_number(cause) as u64);
             causes::tell(log, cause);
         }
         Replayed::Difference(n) => {

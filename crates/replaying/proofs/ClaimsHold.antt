@@ -22,8 +22,8 @@ use Rattle.rules.specs.Stations.{Done, shared, inner}
 use Rattle.rules.proofs.Refusals.{refused_station, bad_refuses}
 use Rattle.script.specs.Events.{call, given}
 use Rattle.script.specs.Layout.{kinds}
-use Rattle.log.specs.Meaning.{Item, Log, head_of}
-use Rattle.log.specs.Reading.{own_length, is_timed, is_sized, is_pilot, part_rules, event_rules, item_rules, field_rules, log_in, read_rules}
+use Rattle.session_log.specs.Meaning.{Item, Log, head_of}
+use Rattle.session_log.specs.Reading.{own_length, is_timed, is_sized, is_pilot, part_rules, event_rules, item_rules, field_rules, log_in, read_rules}
 use Rattle.replaying.specs.Replaying.{station_of, call_in, call_of, recorded}
 use Rattle.replaying.specs.Claims.{EventsAreCalls, BadRefuses}
 use Rattle.replaying.proofs.WalkLaws.{then_yes}

@@ -12,11 +12,11 @@ use Rattle.messages.proofs.CheckLaws.{passed}
 use Rattle.messages.proofs.LayoutLaws.{and_right}
 use Rattle.ends.specs.Outcomes.{and_then}
 use Rattle.ends.proofs.AnswerLaws.{no_same, yes_same}
-use Rattle.log.specs.declared.Places.{Places}
-use Rattle.log.specs.Meaning.{Log}
-use Rattle.log.specs.Layout.{most_octets, head_octets, events_start}
-use Rattle.log.specs.Reading.{count_in, reply_count_in, events_in, replies_in, total_in, ends_at, part_rules, is_set, event_rules, reply_rules, item_rules, field_rules, log_in, read_rules}
-use Rattle.log.specs.Answers.{places_in, places_of}
+use Rattle.session_log.specs.declared.Places.{Places}
+use Rattle.session_log.specs.Meaning.{Log}
+use Rattle.session_log.specs.Layout.{most_octets, head_octets, events_start}
+use Rattle.session_log.specs.Reading.{count_in, reply_count_in, events_in, replies_in, total_in, ends_at, part_rules, is_set, event_rules, reply_rules, item_rules, field_rules, log_in, read_rules}
+use Rattle.session_log.specs.Answers.{places_in, places_of}
 use Rattle.replaying.specs.Replaying.{difference_in, replay_rules}
 use Rattle.replaying.specs.Private.{Listed}
 use Rattle.replaying.proofs.WalkLaws.{then_yes}

@@ -15,8 +15,8 @@ use Rattle.ends.specs.declared.Indication.TheVariants.{Nothing, NoLink, LinkEsta
 use Rattle.ends.specs.Answers.{indication_number}
 use Rattle.ends.specs.Outcomes.{Outcome}
 use Rattle.script.specs.Replies.{longest_reply, reply_head, call_reply}
-use Rattle.log.specs.Meaning.{Item, length_in}
-use Rattle.log.specs.Layout.{item_octets, numbers, numbers_at, octets_of, head_at, behind, item_at}
+use Rattle.session_log.specs.Meaning.{Item, length_in}
+use Rattle.session_log.specs.Layout.{item_octets, numbers, numbers_at, octets_of, head_at, behind, item_at}
 use Rattle.replaying.specs.Replaying.{recorded, same_octets, same_reply}
 use Rattle.replaying.proofs.SameLaws.{same_sized, same_low}
 

@@ -22,8 +22,8 @@ use Rattle.script.specs.Events.{call, given}
 use Rattle.script.specs.Layout.{Event, kinds}
 use Rattle.script.specs.Promises.{reply, Happens}
 use Rattle.script.specs.Replies.{longest_reply}
-use Rattle.log.specs.Meaning.{Item, first_in, second_in}
-use Rattle.log.specs.Layout.{numbers, octets_of, head_at, behind, item_at}
+use Rattle.session_log.specs.Meaning.{Item, first_in, second_in}
+use Rattle.session_log.specs.Layout.{numbers, octets_of, head_at, behind, item_at}
 use Rattle.replaying.specs.Replaying.{call_in, call_of, recorded, same_octets, after, is_reply}
 use Rattle.replaying.specs.Private.{Stand, Turned}
 use Rattle.replaying.proofs.ReplyLaws.{Narrow, same_replies, item_narrow, item_octets_lem, reply_octets_lem, recorded_narrow}

@@ -13,9 +13,9 @@ use Rattle.messages.proofs.LayoutLaws.{and_left, and_right}
 use Rattle.ends.specs.Outcomes.{and_then}
 use Rattle.rules.specs.declared.Station.{Station}
 use Rattle.rules.specs.Invariant.{Invariant}
-use Rattle.log.specs.Meaning.{head_of, first_in}
-use Rattle.log.specs.Layout.{head_at, behind, item_at, items_at}
-use Rattle.log.specs.Reading.{ends_at, event_rules, item_rules}
+use Rattle.session_log.specs.Meaning.{head_of, first_in}
+use Rattle.session_log.specs.Layout.{head_at, behind, item_at, items_at}
+use Rattle.session_log.specs.Reading.{ends_at, event_rules, item_rules}
 use Rattle.replaying.specs.declared.Turn.{Turn}
 use Rattle.replaying.specs.Replaying.{call_of, after, is_reply, difference_from, first_difference}
 use Rattle.replaying.specs.Private.{Stand, Listed, Turned}

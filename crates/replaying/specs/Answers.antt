@@ -1,7 +1,7 @@
 -- The numbers for each case of the answer that the code gives.
 use Rattle.std.specs.Prelude.{ℕ}
 use Rattle.messages.specs.Reading.{Checked, no, yes}
-use Rattle.log.specs.Answers.{number_of}
+use Rattle.session_log.specs.Answers.{number_of}
 use Rattle.replaying.specs.declared.Replayed.{Replayed}
 use Rattle.replaying.specs.declared.Replayed.TheVariants as replayed
 

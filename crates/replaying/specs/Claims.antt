@@ -5,9 +5,9 @@ use Rattle.messages.specs.Reading.{yes}
 use Rattle.ends.specs.Lists.{All}
 use Rattle.rules.specs.Calls.{Call}
 use Rattle.rules.specs.Rules.{is_good, step, outcome}
-use Rattle.log.specs.declared.Configuration.{Configuration}
-use Rattle.log.specs.Meaning.{Item, Log}
-use Rattle.log.specs.Reading.{read_rules}
+use Rattle.session_log.specs.declared.Configuration.{Configuration}
+use Rattle.session_log.specs.Meaning.{Item, Log}
+use Rattle.session_log.specs.Reading.{read_rules}
 use Rattle.replaying.specs.Replaying.{station_of, call_of, recorded}
 
 -- every event of a log that was read is a call

@@ -4,9 +4,9 @@ use Rattle.messages.specs.Reading.{yes}
 use Rattle.rules.specs.declared.Station.{Station}
 use Rattle.rules.specs.Invariant.{Invariant}
 use Rattle.script.specs.Replies.{longest_reply}
-use Rattle.log.specs.Meaning.{Item, first_in}
-use Rattle.log.specs.Layout.{most_octets, head_at, behind, items_at}
-use Rattle.log.specs.Reading.{ends_at, event_rules, item_rules}
+use Rattle.session_log.specs.Meaning.{Item, first_in}
+use Rattle.session_log.specs.Layout.{most_octets, head_at, behind, items_at}
+use Rattle.session_log.specs.Reading.{ends_at, event_rules, item_rules}
 use Rattle.replaying.specs.declared.Turn.{Turn}
 use Rattle.replaying.specs.Replaying.{call_of, after, is_reply}
 

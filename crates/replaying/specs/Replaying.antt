@@ -11,9 +11,9 @@ use Rattle.rules.specs.Numbers.{edition_of}
 use Rattle.rules.specs.Rules.{configured, step, outcome}
 use Rattle.script.specs.Events.{call, query}
 use Rattle.script.specs.Layout.{Event, kinds}
-use Rattle.log.specs.declared.Configuration.{Configuration}
-use Rattle.log.specs.Meaning.{Item, Log}
-use Rattle.log.specs.Reading.{read_rules}
+use Rattle.session_log.specs.declared.Configuration.{Configuration}
+use Rattle.session_log.specs.Meaning.{Item, Log}
+use Rattle.session_log.specs.Reading.{read_rules}
 
 -- ---- the station and its calls
 

@@ -1,17 +1,19 @@
 // The replay of a logged session: the station carries the log's events out, and each reply is held to the recorded one.
+#![tactic(auto)]
+
 ghost use Rattle.std.specs.Prelude.{◌≡◌, ◌<◌, ◌^◌, length};
 ghost use Rattle.messages.specs.Reading.{yes};
 ghost use Rattle.rules.specs.Invariant.{Invariant};
 ghost use Rattle.script.specs.Replies.{longest_reply};
-ghost use Rattle.log.specs.Layout;
-ghost use Rattle.log.specs.Layout.{item_at, items_at};
-ghost use Rattle.log.specs.Reading.{read_rules};
-ghost use Rattle.log.specs.Answers.{places_of};
+ghost use Rattle.session_log.specs.Layout;
+ghost use Rattle.session_log.specs.Layout.{item_at, items_at};
+ghost use Rattle.session_log.specs.Reading.{read_rules};
+ghost use Rattle.session_log.specs.Answers.{places_of};
 ghost use Rattle.replaying.specs.Replaying.{station_of, same_octets, first_difference, replay_rules};
 ghost use Rattle.replaying.specs.Answers.{replayed_of};
 ghost use Rattle.replaying.specs.Private.{Ready, Stand, Listed, Turned};
 
-use log::{Cause, Configuration, ITEM_OCTETS, Places, ReadAnswer};
+use session_log::{Cause, Configuration, ITEM_OCTETS, Places, ReadAnswer};
 use rules::{LEAST_OUTPUT, Station};
 use script::LONGEST_REPLY;
 
@@ -20,14 +22,14 @@ type Output = [u8; LONGEST_REPLY];
 
 // What the replay of a log answers: the cause by which the log is refused, or the number of the first event whose recorded reply
 // differs, from 1, and 0 if none does.
-#[derive(Drop)]
+#[derive(Clone, Copy)]
 pub enum Replayed {
     Refused(Cause),
     Difference(usize),
 }
 
 // The station after an event, and whether the recorded reply is the one to it.
-#[derive(Drop)]
+#[derive(Clone, Copy)]
 struct Turn {
     station: Station,
     same: bool,
@@ -91,7 +93,7 @@ fn behind(log: &[u8], at: usize) -> usize
     requires { at < 2 ^ 32 }
     ensures { result ≡ Layout.behind log.now at }
 {
-    let head = log::head_at(log, at);
+    let head = session_log::head_at(log, at);
     at + ITEM_OCTETS + size(head[2])
 }
 
@@ -100,7 +102,7 @@ fn one_event(station: Station, log: &[u8], event: usize, reply: usize, out: &mut
     requires { Ready station out.old × Stand log.now event reply }
     ensures { Turned station (item_at log.now event) (item_at log.now reply) result }
 {
-    let head = log::head_at(log, event);
+    let head = session_log::head_at(log, event);
     let start = event + ITEM_OCTETS;
     let end = behind(log, event);
     let happened = script::carry_out(
@@ -156,7 +158,7 @@ fn difference_in(log: &[u8], places: Places) -> usize
     ensures { yes result ≡ replay_rules log.now }
 {
     let mut out = output();
-    let station = station_of(log::configuration_in(log));
+    let station = station_of(session_log::configuration_in(log));
     first_difference(
         station,
         log,
@@ -171,7 +173,7 @@ fn difference_in(log: &[u8], places: Places) -> usize
 pub fn replay(log: &[u8]) -> Replayed
     ensures { replayed_of result ≡ replay_rules log.now }
 {
-    let read = log::read(log);
+    let read = session_log::read(log);
     match read {
         ReadAnswer::Read(places) => Replayed::Difference(difference_in(log, places)),
         ReadAnswer::Refused(cause) => Replayed::Refused(cause),

@@ -1,5 +1,7 @@
 // The station's types, configuring it, and the service query. What its calls do stands in specs/.
 
+#![tactic(auto)]
+
 pub mod tries;
 
 ghost use Rattle.std.specs.Prelude.{◌≡◌, replicate};
@@ -84,7 +86,7 @@ pub const CONFIRMATION_OCTETS: usize = 60;
 pub const LEAST_OUTPUT: usize = REPORT_OCTETS * RECORDS;
 
 // What a station is configured with; good is false where it was refused, exempt is true where validation is not required, and carriers is how many carriers our modem has.
-#[derive(Drop)]
+#[derive(Clone, Copy)]
 pub struct Configuration {
     pub good: bool,
     pub address: StationAddress,
@@ -97,7 +99,7 @@ pub struct Configuration {
 }
 
 // Where a car's run stands, with the time left; the last three are the steps of Validating.
-#[derive(Drop)]
+#[derive(Clone, Copy)]
 pub enum Phase {
     Asked(u32),
     Sounding(u32),
@@ -112,7 +114,7 @@ pub enum Phase {
 pub type GroupSums = [u16; GROUPS];
 
 // The least and the greatest value of each group.
-#[derive(Drop)]
+#[derive(Clone, Copy)]
 pub struct Spread {
     pub least: GroupValues,
     pub greatest: GroupValues,
@@ -120,7 +122,7 @@ pub struct Spread {
 
 // One car's run: the sound counts heard are the ones of a set, the sums and the spread those of the profiles counted; in the SAE edition
 // whether it is a later try, and the group count, 0 before a profile is counted.
-#[derive(Drop)]
+#[derive(Clone, Copy)]
 pub struct Record {
     pub car: CarAddress,
     pub run: RunId,
@@ -138,7 +140,7 @@ pub struct Record {
 pub type RecordArray = [Record; RECORDS];
 
 // The station's state; Matching carries admission's time left, Joining its own; Joining and Matched have the car.
-#[derive(Drop)]
+#[derive(Clone, Copy)]
 pub enum State {
     Unmatched,
     Matching(u32),
@@ -151,7 +153,7 @@ pub enum State {
 }
 
 // The state of the control pilot.
-#[derive(Drop)]
+#[derive(Clone, Copy)]
 pub enum Pilot {
     A,
     B,
@@ -162,7 +164,7 @@ pub enum Pilot {
 }
 
 // What a pilot change means for a toggle: it begins one, ends one, changes nothing, or leaves none begun.
-#[derive(Drop)]
+#[derive(Clone, Copy)]
 pub enum Turn {
     Begins,
     Ends,
@@ -171,7 +173,7 @@ pub enum Turn {
 }
 
 // A charging station's side of SLAC matching; the clock is the last reading taken.
-#[derive(Drop)]
+#[derive(Clone, Copy)]
 pub struct Station {
     pub config: Configuration,
     pub state: State,
@@ -181,35 +183,35 @@ pub struct Station {
 }
 
 // The station after a call, and what the call gives.
-#[derive(Drop)]
+#[derive(Clone, Copy)]
 pub struct Stepped {
     pub station: Station,
     pub answer: Answer,
 }
 
 // The station that configuring gives, and what it answers.
-#[derive(Drop)]
+#[derive(Clone, Copy)]
 pub struct Configured {
     pub station: Station,
     pub answer: Answer,
 }
 
 // How many sounds a car's run has heard, or a refusal.
-#[derive(Drop)]
+#[derive(Clone, Copy)]
 pub enum HeardAnswer {
     Refused(Refusal),
     Heard(u32),
 }
 
 // What the service query gives: the sounds heard, or a refusal, and the spread, zeros where it is refused.
-#[derive(Drop)]
+#[derive(Clone, Copy)]
 pub struct Queried {
     pub heard: HeardAnswer,
     pub spread: Spread,
 }
 
 // What the inspection gives: the state's number and the car, or a refusal.
-#[derive(Drop)]
+#[derive(Clone, Copy)]
 pub enum Inspection {
     Refused(Refusal),
     At { state: u32, car: CarAddress },

@@ -6,7 +6,7 @@ ghost use Rattle.script.specs.Private.{event_head};
 use crate::{EVENT_OCTETS, MOST_OCTETS};
 
 // An event's kind, its clock reading and its room.
-#[derive(Drop)]
+#[derive(Clone, Copy)]
 pub(crate) struct EventHead {
     pub(crate) kind: u64,
     pub(crate) reading: u32,

@@ -1,4 +1,6 @@
 // The bench script: its head, its events and their replies, in octets. The car's is in a module of its own.
+#![tactic(auto)]
+
 mod car_doing;
 mod doing;
 mod events;
@@ -38,7 +40,7 @@ pub type NumberOctets = [u8; 4];
 
 // The station that a script starts with, the octets of configuring's answer, and whether the script goes on: a head that breaks
 // the layout has no answer.
-#[derive(Drop)]
+#[derive(Clone, Copy)]
 pub struct Started {
     pub station: Station,
     pub answer: NumberOctets,
@@ -46,7 +48,7 @@ pub struct Started {
 }
 
 // The station after an event, and how many octets the reply takes: none where the event is not carried out.
-#[derive(Drop)]
+#[derive(Clone, Copy)]
 pub struct Happened {
     pub station: Station,
     pub octets: usize,

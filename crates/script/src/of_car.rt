@@ -13,14 +13,14 @@ use messages::CarAddress;
 pub const HEAD_OCTETS: usize = 14;
 
 // The car that a script starts with, and the octets of configuring's answer.
-#[derive(Drop)]
+#[derive(Clone, Copy)]
 pub struct Started {
     pub car: Car,
     pub answer: NumberOctets,
 }
 
 // The car after an event, and how many octets the reply takes: none where the event is not carried out.
-#[derive(Drop)]
+#[derive(Clone, Copy)]
 pub struct Happened {
     pub car: Car,
     pub octets: usize,

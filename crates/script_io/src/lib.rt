@@ -1,5 +1,7 @@
 // Reading a script's events from standard input and writing their replies to standard output, for the programs that answer
 // scripts. What is read and written no contract can say.
+#![tactic(auto)]
+
 ghost use Rattle.std.specs.Prelude.{◌≡◌, true, false, ◌<◌, ◌≤◌, length};
 
 use libc::{STDERR_FILENO, STDIN_FILENO, STDOUT_FILENO};

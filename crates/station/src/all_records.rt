@@ -8,7 +8,7 @@ use records::timers;
 use rules::{Configuration, RECORDS, RecordArray};
 
 // The records after a tick, how many reports they sent, and of how many octets in all.
-#[derive(Drop)]
+#[derive(Clone, Copy)]
 pub(crate) struct TickedRecords {
     pub records: RecordArray,
     pub reports: usize,

@@ -1,4 +1,6 @@
 // A charging station's calls, by value: each gives the station afterwards and an answer.
+#![tactic(auto)]
+
 mod all_records;
 mod answers;
 mod confirming;

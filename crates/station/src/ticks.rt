@@ -11,7 +11,7 @@ use ends::Indication;
 use rules::{CONFIRMATION_OCTETS, State, Station, Stepped};
 
 // A state after so many milliseconds, and what is indicated.
-#[derive(Drop)]
+#[derive(Clone, Copy)]
 pub struct Passed {
     pub state: State,
     pub indication: Indication,

@@ -1,4 +1,6 @@
 // A station lent as plain words, sums and spread: a field to a word, and the sums and the spread of all records side by side.
+#![tactic(auto)]
+
 mod copies;
 mod fields;
 mod head;

@@ -1,8 +1,8 @@
 -- The length behind the three numbers.
 use Prim.Native.Nat.{ℕ, ◌+◌}
 use mathlib.Core.Path.{ap, ◌∙◌}
-use Rattle.log.specs.Meaning.{length_in}
-use Rattle.log.specs.Layout.{item_octets}
+use Rattle.session_log.specs.Meaning.{length_in}
+use Rattle.session_log.specs.Layout.{item_octets}
 use borrow.Author.Rules.{rules}
 use Rattle.replaying.proofs.behind.Statement.{statement}
 use Rattle.replaying.proofs.behind.Tie as tie

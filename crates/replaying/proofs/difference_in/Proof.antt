@@ -2,8 +2,8 @@
 use mathlib.Core.Path.{sym, ap, ◌∙◌, subst}
 use Rattle.messages.specs.Reading.{yes}
 use Rattle.rules.specs.declared.Station.{Station}
-use Rattle.log.specs.declared.Places.{Places}
-use Rattle.log.specs.Layout.{configuration_in, items_at}
+use Rattle.session_log.specs.declared.Places.{Places}
+use Rattle.session_log.specs.Layout.{configuration_in, items_at}
 use Rattle.replaying.specs.Replaying.{station_of, first_difference}
 use Rattle.replaying.specs.Private.{Listed}
 use Rattle.replaying.proofs.ReadLaws.{right_places, right_lists, right_answer}

@@ -4,8 +4,8 @@ use mathlib.Core.Path.{◌≡◌, ap, ◌∙◌}
 use native.Mathlib.Omega.{arith}
 use lib.ListN.{length, take, drop}
 use Rattle.script.specs.Replies.{longest_reply}
-use Rattle.log.specs.Meaning.{first_in, second_in, length_in}
-use Rattle.log.specs.Layout.{item_octets, head_at}
+use Rattle.session_log.specs.Meaning.{first_in, second_in, length_in}
+use Rattle.session_log.specs.Layout.{item_octets, head_at}
 use Rattle.replaying.proofs.TurnLaws.{event_as_lem, written_fits, turned}
 use borrow.Author.Rules.{rules}
 use Rattle.replaying.proofs.one_event.Statement.{statement}

@@ -1,6 +1,6 @@
 -- By what reading answered.
 use mathlib.Core.Path.{sym, ap, ◌∙◌}
-use Rattle.log.specs.Answers.{answer_of}
+use Rattle.session_log.specs.Answers.{answer_of}
 use Rattle.replaying.proofs.ReadLaws.{refused_answer}
 use borrow.Author.Rules.{rules}
 use Rattle.replaying.proofs.replay.Statement.{statement}

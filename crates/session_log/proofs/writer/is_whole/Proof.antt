@@ -1,0 +1,13 @@
+-- By the number of items behind it.
+use borrow.Author.Tests.{eq-eqb, ne_eqb}
+use Rattle.session_log.proofs.writer.is_whole.Statement.{statement}
+use Rattle.session_log.proofs.writer.is_whole.Tie as tie
+
+returns : tie.Need-returns
+returns c = simp (eq-eqb _ 0 c.if1.true)
+
+returns-2 : tie.Need-returns-2
+returns-2 c = simp (ne_eqb _ 0 c.if1.false)
+
+pub is-whole-spec : {M : Type 1} → statement M
+is-whole-spec = tie.close (tie.spec returns returns-2)
