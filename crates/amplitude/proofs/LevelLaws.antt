@@ -11,7 +11,7 @@ use lib.ListN.{length, get_or}
 use lib.Signed.{mag, lt_z, non_neg}
 use mir.Syntax.{w16, w32}
 use mir.Val.{Fits, SFits, to_z, of_z}
-use mir.Facts.{to_z_of_z}
+use mir.Facts.{to_z-of_z}
 use Rattle.amplitude.specs.Reductions.{positive, reduction, reductions, is_level, are_levels}
 use Rattle.amplitude.specs.Private.{depth_of}
 use Rattle.amplitude.proofs.RunLaws.{every_at}
@@ -38,7 +38,7 @@ depth_le (negsuc n) h = omega arith
 
 module _ (z : ℤ) (f : SFits w16 z) where
   plain : bits16 z ≡ z
-  plain = to_z_of_z f
+  plain = to_z-of_z f
 
   pub wide_fits : SFits w32 (bits16 z)
   wide_fits = rw plain (record { sfits = let m : mag z < 2 ^ 15 = f.sfits in omega arith })
@@ -59,13 +59,13 @@ module _ (z : ℤ) (f : SFits w16 z) where
     small = let m : mag z < 2 ^ 15 = f.sfits in omega (arith, depth_le z under)
 
     less : (pos 0 -ℤ bits32 (bits16 z)) ≡ pos (depth_of z)
-    less = ap (λ (x : ℤ). pos 0 -ℤ x) (to_z_of_z wide_fits ∙ plain) ∙ negated z under
+    less = ap (λ (x : ℤ). pos 0 -ℤ x) (to_z-of_z wide_fits ∙ plain) ∙ negated z under
 
     pub less_fits : SFits w32 (pos 0 -ℤ bits32 (bits16 z))
     less_fits = subst (SFits w32) (sym less) (record { sfits = omega (arith, small) })
 
     got : bits32 (pos 0 -ℤ bits32 (bits16 z)) ≡ pos (depth_of z)
-    got = to_z_of_z less_fits ∙ less
+    got = to_z-of_z less_fits ∙ less
 
     pub narrow : T (non_neg (bits32 (pos 0 -ℤ bits32 (bits16 z)))) × Fits w16 (nat_abs (bits32 (pos 0 -ℤ bits32 (bits16 z))))
     narrow = subst (λ (x : ℤ). T (non_neg x) × Fits w16 (nat_abs x)) (sym got) (tt, record { fits = omega (arith, small) })
@@ -75,7 +75,7 @@ module _ (z : ℤ) (f : SFits w16 z) where
 
 -- a level that is handed to a function arrives as it was
 arrives : (z : ℤ) → mag z < 2 ^ 15 → bits16 z ≡ z
-arrives z h = to_z_of_z (record { sfits = h })
+arrives z h = to_z-of_z {w = w16} (record { sfits = h })
 
 -- ---- its range and its reduction, by how far it lies below 0
 
