@@ -43,7 +43,7 @@ use Rattle.rules.proofs.RecordLaws.{same_eq, holds_held, holds_same, holds_free,
 use Rattle.rules.proofs.RuleLaws.{on_map, change_ready, is_ask, is_validate}
 use Rattle.rules.proofs.PhaseLaws.{OfKept}
 use Rattle.rules.proofs.ReceivedLaws.{asks_in, validates_in, FrameAs, read_as, TimedRequest, admitted_timed}
-use Rattle.rules.proofs.PartOne.{is_car_lem, is_ask, is_validate_lem, own_part}
+use Rattle.rules.proofs.PartOne.{is_car_lem, is_ask_lem, is_validate_lem, own_part}
 use Rattle.rules.proofs.TimeLeft.{Live, time_left, Lower, more_left, same_left, request_left, start_lower, sound_lower, profile_lower, rsp_lower, first_lower, second_lower, TickLower, tick_lower, turn_lower}
 
 -- ---- a car's own records, before and after
@@ -153,7 +153,7 @@ module _ (v : Bool) (e : ℕ) where
   frame_starts c o i f room (yes y) t h =
       let w : Checked Done = state_rule o i.state i.records y.car y.request in
       let k = all_three (is_kind o.edition slac_parm_req (frame f room)) (is_car c (named o.edition (frame f room))) (accepted (outcome_of w)) h in
-      let a : asks_in y.request ≡ true = sym (is_ask o.edition c f room y t) ∙ k.0 in
+      let a : asks_in y.request ≡ true = sym (is_ask_lem o.edition c f room y t) ∙ k.0 in
       let b : same_car c y.car ≡ true = sym (is_car_lem o.edition c f room y t) ∙ k.1 in
       subst (λ (d : CarAddress). StartedIn o d i.records (mine d (next i w).records)) (sym (same_eq c y.car b))
       (accepted_on (StartedIn o y.car i.records) y.car i w k.2 (state_starts o i.state i.records y.car y.request a))
@@ -306,12 +306,12 @@ module _ (v : Bool) (e : ℕ) (c : CarAddress) (o : Configuration) where
     back_falls r own (no n) h = tt
     back_falls r own (yes k) h = h
 
-    at_own : (own : List Record) (f : Record → Checked Kept) → ((r : Record) → Live r → OnYes (LowerIf r) (f r)) → Fit own → OnYes (FallsIf own) (put_back (at_own own f))
-    at_own [] f g h = tt
-    at_own (r ∷ own) f g h = back_falls r own (f r) (g r h)
+    at_own_lem : (own : List Record) (f : Record → Checked Kept) → ((r : Record) → Live r → OnYes (LowerIf r) (f r)) → Fit own → OnYes (FallsIf own) (put_back (at_own own f))
+    at_own_lem [] f g h = tt
+    at_own_lem (r ∷ own) f g h = back_falls r own (f r) (g r h)
 
     at_run_lem : (run : RunId) (own : List Record) (f : Record → Checked Kept) → ((r : Record) → Live r → OnYes (OfKept (Lower o.edition v e 0 r)) (f r)) → Fit own → OnYes (FallsIf own) (put_back (at_run run own f))
-    at_run_lem run own f g h = at_own own (λ (r : Record). check (same_run run r.run) 11 (f r)) (λ r l. on_check (LowerIf r) (same_run run r.run) 11 (f r) (λ s. plain r (f r) (g r l))) h
+    at_run_lem run own f g h = at_own_lem own (λ (r : Record). check (same_run run r.run) 11 (f r)) (λ r l. on_check (LowerIf r) (same_run run r.run) 11 (f r) (λ s. plain r (f r) (g r l))) h
 
   -- the replies of a validate request, unless the car may be made ready, do not answer 01
   abbrev Calm : RecordMessage → List (List ℕ) → Type 0
@@ -325,10 +325,10 @@ module _ (v : Bool) (e : ℕ) (c : CarAddress) (o : Configuration) where
   change_falls (parm_req run) a free result own n q h = clash true refl n
   change_falls (start run k) a free result own n q h = at_run_lem (CalmReplies (start run k)) run own _ (λ r l. start_lower o.edition v e r l k) h
   change_falls (sound run k) a free result own n q h = at_run_lem (CalmReplies (sound run k)) run own _ (λ r l. sound_lower o.edition v e r l k) h
-  change_falls (profile g vs) a free result own n q h = at_own (CalmReplies (profile g vs)) own _ (λ r l. plain (CalmReplies (profile g vs)) r (profile_rule o.edition g vs r r.phase) (profile_lower o.edition v e r l g vs)) h
+  change_falls (profile g vs) a free result own n q h = at_own_lem (CalmReplies (profile g vs)) own _ (λ r l. plain (CalmReplies (profile g vs)) r (profile_rule o.edition g vs r r.phase) (profile_lower o.edition v e r l g vs)) h
   change_falls (rsp run) a free result own n q h = at_run_lem (CalmReplies (rsp run)) run own _ (λ r l. rsp_lower o.edition v e r l) h
-  change_falls validate_first a free result own n q h = at_own (CalmReplies validate_first) own _ (λ r l. first_lower o.edition v e r l o c result) h
-  change_falls (validate_second timer) a free result own n q h = at_own (CalmReplies (validate_second timer)) own _ (λ r l. plain (CalmReplies (validate_second timer)) r (second_rule timer r r.phase) (second_lower o.edition v e r l timer q)) h
+  change_falls validate_first a free result own n q h = at_own_lem (CalmReplies validate_first) own _ (λ r l. first_lower o.edition v e r l o c result) h
+  change_falls (validate_second timer) a free result own n q h = at_own_lem (CalmReplies (validate_second timer)) own _ (λ r l. plain (CalmReplies (validate_second timer)) r (second_rule timer r r.phase) (second_lower o.edition v e r l timer q)) h
 
   -- what is given of the frames that the call reports
   given : (st : State) (rs : List Record) (m : RecordMessage) (w : Checked Change) → Calm m (frames_of (outcome_of (and_then w (λ (x : Change). yes (changed o st rs c x))))) → OnYes (FallsIf (CalmReplies m) (mine c rs)) w → OnYes (OwnAfter (mine c rs)) w
@@ -390,7 +390,7 @@ module _ (v : Bool) (e : ℕ) (c : CarAddress) (o : Configuration) where
 
   quiet_read : (f : List ℕ) (room : ℕ) (y : Received) → FrameAs o.edition f y → (u : Outcome) → own_ask f room u ≡ false → (v ≡ false → own_readied f room u ≡ false) → QuietRequest y.car y.request u
   quiet_read f room y t u a b = record {
-    unasked = λ p. ap (λ (x : Bool). x && accepted u) (sym (is_ask o.edition c f room y t)) ∙ own_part o.edition c f room y t (is_kind o.edition slac_parm_req (frame f room)) (accepted u) p a;
+    unasked = λ p. ap (λ (x : Bool). x && accepted u) (sym (is_ask_lem o.edition c f room y t)) ∙ own_part o.edition c f room y t (is_kind o.edition slac_parm_req (frame f room)) (accepted u) p a;
     unready = λ p n. ap (λ (x : Bool). x && any_result ready_result (frames_of u)) (sym (is_validate_lem o.edition c f room y t))
         ∙ own_part o.edition c f room y t (is_kind o.edition validate_req (frame f room)) (any_result ready_result (frames_of u)) p (b n);
   }

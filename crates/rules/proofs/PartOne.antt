@@ -51,9 +51,9 @@ module _ (e : Edition) (c : CarAddress) (s : List ℕ) (room : ℕ) (y : Receive
   unfolding is_kind
   is_match_lem = t.matching
 
-  pub is_ask : is_kind e slac_parm_req (frame s room) ≡ asks_in y.request
+  pub is_ask_lem : is_kind e slac_parm_req (frame s room) ≡ asks_in y.request
   unfolding is_kind
-  is_ask = t.asking
+  is_ask_lem = t.asking
 
   pub is_validate_lem : is_kind e validate_req (frame s room) ≡ validates_in y.request
   unfolding is_kind
@@ -70,7 +70,7 @@ module _ (e : Edition) (c : CarAddress) (s : List ℕ) (room : ℕ) (y : Receive
 
   lasts_ask : (u : Outcome) → same_car c y.car ≡ true → ends e c (frame s room) u ≡ false → asks_in y.request && is_ten u ≡ false
   unfolding ends ends_for
-  lasts_ask u p g = ap (λ q. q && is_ten u) (sym is_ask) ∙ own_part (is_kind e slac_parm_req (frame s room)) (is_ten u) p (or_right (is_end e (frame s room) && accepted u) _ (or_left _ _ g))
+  lasts_ask u p g = ap (λ q. q && is_ten u) (sym is_ask_lem) ∙ own_part (is_kind e slac_parm_req (frame s room)) (is_ten u) p (or_right (is_end e (frame s room) && accepted u) _ (or_left _ _ g))
 
   lasts_validate : (u : Outcome) → same_car c y.car ≡ true → ends e c (frame s room) u ≡ false → validates_in y.request && any_failure (frames_of u) ≡ false
   unfolding ends
