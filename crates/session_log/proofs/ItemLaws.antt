@@ -72,13 +72,13 @@ ends_stand (x ∷ xs) s pre rest at e whole place n end =
 
 -- the item at a place whose octets are all in s
 module _ (s : List ℕ) (at : ℕ) (h : behind s at ≤ length s) where
-  pub head_at : head_of (item_at s at) ≡ head_at s at
+  pub head_at_lem : head_of (item_at s at) ≡ head_at s at
   unfolding numbers_at
-  head_at = ap (λ (k : ℕ). first_in (head_at s at) ∷ second_in (head_at s at) ∷ k ∷ []) (part_length s (at + item_octets) (length_in (head_at s at)) h)
+  head_at_lem = ap (λ (k : ℕ). first_in (head_at s at) ∷ second_in (head_at s at) ∷ k ∷ []) (part_length s (at + item_octets) (length_in (head_at s at)) h)
 
   item_written : Octets s → octets_of (item_at s at) ≡ part s at (item_octets + length_in (head_at s at))
   item_written o =
-      ap (λ (l : List ℕ). numbers l ++ part s (at + item_octets) (length_in (head_at s at))) head_at
+      ap (λ (l : List ℕ). numbers l ++ part s (at + item_octets) (length_in (head_at s at))) head_at_lem
       ∙ ap (λ (l : List ℕ). l ++ part s (at + item_octets) (length_in (head_at s at))) (numbers_written 3 at s o (omega arith))
       ∙ part_joined s at item_octets (length_in (head_at s at))
 

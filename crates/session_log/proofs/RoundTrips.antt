@@ -8,7 +8,7 @@ use borrow.Author.Tests.{le-leb, leb-true, lt-ltb, ltb-true}
 use lib.Dec.{leb, ltb}
 use lib.ListN.{length, get_or, length-append}
 use lib.Seq.{take_all}
-use Rattle.octets.specs.Octets.{value, part, Octets}
+use Rattle.octets.specs.Octets.{part, Octets}
 use Rattle.octets.proofs.OctetLaws.{value_lt, low_lt}
 use Rattle.messages.specs.Layout.{Field, Values, width, size, holds, read, encode, zeroed_field, zeroed}
 use Rattle.messages.specs.Reading.{Checked, yes, check}

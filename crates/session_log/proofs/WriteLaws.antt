@@ -1,10 +1,10 @@
 -- The order of writing's causes, as the code tests them, and what is written.
 use Prim.Native.Nat.{ℕ, ◌≤◌, ◌<◌, min}
 use mathlib.Core.Path.{◌≡◌, refl, sym, ap, ◌∙◌}
-use mathlib.Core.Bool.{Bool, true, false, not}
+use mathlib.Core.Bool.{Bool, true, false}
 use mathlib.Core.List.{List}
 use native.Mathlib.Omega.{arith}
-use borrow.Author.Tests.{not-true, not-false, le-leb, lt-leb, leb-true, leb-false}
+use borrow.Author.Tests.{eq-eqb, ne_eqb, le-leb, lt-leb, leb-true, leb-false}
 use lib.Dec.{eqb, leb}
 use lib.ListN.{length}
 use lib.Seq.{sets}
@@ -57,33 +57,33 @@ module _ (g : Given) where
     unfolding meaning_rules
     from1 = ap (λ (b : Bool). check b 1 left3) (capped en)
 
-    pub meaning_long : not (leb n most_octets) ≡ true → no 1 ≡ told (meaning_rules g)
-    meaning_long h = ap told (sym (fail (leb n most_octets) 1 left3 (not-true _ h)) ∙ from1)
+    pub meaning_long : most_octets < n → no 1 ≡ told (meaning_rules g)
+    meaning_long h = ap told (sym (fail (leb n most_octets) 1 left3 (lt-leb n most_octets h)) ∙ from1)
 
-    module _ (p1 : not (leb n most_octets) ≡ false) where
+    module _ (p1 : n ≤ most_octets) where
       from3 : left3 ≡ meaning_rules g
-      from3 = sym (pass (leb n most_octets) 1 left3 (not-false _ p1)) ∙ from1
+      from3 = sym (pass (leb n most_octets) 1 left3 (le-leb n most_octets p1)) ∙ from1
 
-      pub meaning_counts : not (eqb (length g.replies) (length g.events)) ≡ true → no 3 ≡ told (meaning_rules g)
-      meaning_counts h = ap told (sym (fail (eqb (length g.replies) (length g.events)) 3 left7 (not-true _ h)) ∙ from3)
+      pub meaning_counts : (length g.replies ≡ length g.events → ⊥) → no 3 ≡ told (meaning_rules g)
+      meaning_counts h = ap told (sym (fail (eqb (length g.replies) (length g.events)) 3 left7 (ne_eqb (length g.replies) (length g.events) h)) ∙ from3)
 
-      module _ (p3 : not (eqb (length g.replies) (length g.events)) ≡ false) {b : Bool} (eb : b ≡ is_narrow g.configuration) where
+      module _ (p3 : length g.replies ≡ length g.events) {b : Bool} (eb : b ≡ is_narrow g.configuration) where
         from7 : check b 7 left8 ≡ meaning_rules g
-        from7 = ap (λ (a : Bool). check a 7 left8) eb ∙ sym (pass (eqb (length g.replies) (length g.events)) 3 left7 (not-false _ p3)) ∙ from3
+        from7 = ap (λ (a : Bool). check a 7 left8) eb ∙ sym (pass (eqb (length g.replies) (length g.events)) 3 left7 (eq-eqb (length g.replies) (length g.events) p3)) ∙ from3
 
-        pub meaning_wide : not b ≡ true → no 7 ≡ told (meaning_rules g)
-        meaning_wide h = ap told (sym (fail b 7 left8 (not-true _ h)) ∙ from7)
+        pub meaning_wide : b ≡ false → no 7 ≡ told (meaning_rules g)
+        meaning_wide h = ap told (sym (fail b 7 left8 h) ∙ from7)
 
-        module _ (p7 : not b ≡ false) {c : Bool} (ec : c ≡ is_set g.configuration) where
+        module _ (p7 : b ≡ true) {c : Bool} (ec : c ≡ is_set g.configuration) where
           from8 : check c 8 left9 ≡ meaning_rules g
-          from8 = ap (λ (a : Bool). check a 8 left9) ec ∙ sym (pass b 7 left8 (not-false _ p7)) ∙ from7
+          from8 = ap (λ (a : Bool). check a 8 left9) ec ∙ sym (pass b 7 left8 p7) ∙ from7
 
-          pub meaning_setting : not c ≡ true → no 8 ≡ told (meaning_rules g)
-          meaning_setting h = ap told (sym (fail c 8 left9 (not-true _ h)) ∙ from8)
+          pub meaning_setting : c ≡ false → no 8 ≡ told (meaning_rules g)
+          meaning_setting h = ap told (sym (fail c 8 left9 h) ∙ from8)
 
-          module _ (p8 : not c ≡ false) where
+          module _ (p8 : c ≡ true) where
             from9 : left9 ≡ meaning_rules g
-            from9 = sym (pass c 8 left9 (not-false _ p8)) ∙ from8
+            from9 = sym (pass c 8 left9 p8) ∙ from8
 
             pub meaning_event : (k : ℕ) → no k ≡ events → no k ≡ told (meaning_rules g)
             meaning_event k e = ap told (ap (λ (w : Checked (Unit {0})). and_then w (λ (_ : Unit {0}). and_then replies (λ (_ : Unit {0}). yes (log_of g)))) e ∙ from9)
