@@ -4,7 +4,7 @@ use mathlib.Core.Path.{◌≡◌, refl, sym, ap, ◌∙◌, subst}
 use mathlib.Core.Bool.{Bool, true, false, not, cond, ◌&&◌}
 use mathlib.Core.List.{List, [], ◌∷◌}
 use native.Mathlib.Omega.{arith}
-use borrow.Author.Tests.{not-true, not-false, le-leb, lt-leb, leb-true, eq-eqb, ne_eqb}
+use borrow.Author.Tests.{le-leb, lt-leb, leb-true, eq-eqb, ne_eqb}
 use denote.Enum.Declared.{tag_of}
 use lib.Dec.{eqb, leb}
 use types.Run.{OneOf, miss}
@@ -49,21 +49,21 @@ use Rattle.receiving.specs.Judge.{Asking, asking, for_us_rule, addressed_rule, j
 
 module _ (o : Configuration) (room : ℕ) (s : List ℕ) where
   -- 16
-  pub judged_bad : not o.good ≡ true → no 16 ≡ judge_rule o room s
+  pub judged_bad : o.good ≡ false → no 16 ≡ judge_rule o room s
   unfolding judge_rule
-  judged_bad g = sym (rw (not-true o.good g))
+  judged_bad g = sym (rw g)
 
-  module _ (g : not o.good ≡ false) where
+  module _ (g : o.good ≡ true) where
     -- 15
     pub judged_short : room < least_output → no 15 ≡ judge_rule o room s
     unfolding judge_rule
-    judged_short h = sym (rw (not-false o.good g, lt-leb least_output room h))
+    judged_short h = sym (rw (g, lt-leb least_output room h))
 
     module _ (h : least_output ≤ room) where
       -- reading, 17, 7
       judged_read : judge_rule o room s ≡ and_then (read_rules o.edition s) (addressed_rule o)
       unfolding judge_rule
-      judged_read = rw (not-false o.good g, le-leb least_output room h)
+      judged_read = rw (g, le-leb least_output room h)
 
       -- what cannot be read
       pub judged_unread : (a : ReadAnswer) (x : Refusal) → answer_of o.edition a (beside_of (read_rules o.edition s)) ≡ read_rules o.edition s → a ≡ read_answer.Refused x → (y : Refusal) → y ≡ refusal_in a

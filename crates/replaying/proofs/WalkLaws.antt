@@ -4,7 +4,7 @@ use mathlib.Core.Path.{◌≡◌, refl, sym, ap, ap₂, ◌∙◌}
 use mathlib.Core.Bool.{Bool, true, false, cond, not}
 use mathlib.Core.List.{List}
 use native.Mathlib.Omega.{arith}
-use borrow.Author.Tests.{leb-true, not-true, not-false}
+use borrow.Author.Tests.{leb-true}
 use lib.Dec.{leb}
 use lib.ListN.{length, get_or}
 use Rattle.messages.specs.Reading.{Checked, no, yes}
@@ -113,14 +113,14 @@ module _ (station : Station) (s : List ℕ) (count events replies : ℕ) where
         by_turn : cond t.same (difference_from (i + 1 + 1) t.station (items_at s left (behind s event)) (items_at s left (behind s reply))) (i + 1) ≡ first_difference station (items_at s count events) (items_at s count replies)
         by_turn = ap₂ (λ (d : Bool) (z : Station). cond d (difference_from (i + 1 + 1) z (items_at s left (behind s event)) (items_at s left (behind s reply))) (i + 1)) h.same h.left ∙ one_event
 
-        pub going_differs : not t.same ≡ true → i + 1 ≡ first_difference station (items_at s count events) (items_at s count replies)
-        going_differs d = ap (λ (b : Bool). cond b (difference_from (i + 1 + 1) t.station (items_at s left (behind s event)) (items_at s left (behind s reply))) (i + 1)) (sym (not-true t.same d)) ∙ by_turn
+        pub going_differs : t.same ≡ false → i + 1 ≡ first_difference station (items_at s count events) (items_at s count replies)
+        going_differs d = ap (λ (b : Bool). cond b (difference_from (i + 1 + 1) t.station (items_at s left (behind s event)) (items_at s left (behind s reply))) (i + 1)) (sym d) ∙ by_turn
 
-        pub going_next : not t.same ≡ false → Going station s count events replies t.station (behind s event) (behind s reply) (i + 1)
+        pub going_next : t.same ≡ true → Going station s count events replies t.station (behind s event) (behind s reply) (i + 1)
         unfolding left
         going_next d = record {
           turns = omega arith;
           kept = h.kept;
           listed = listed_rest s left event reply listed;
-          same = ap (λ (b : Bool). cond b (difference_from (i + 1 + 1) t.station (items_at s left (behind s event)) (items_at s left (behind s reply))) (i + 1)) (sym (not-false t.same d)) ∙ by_turn;
+          same = ap (λ (b : Bool). cond b (difference_from (i + 1 + 1) t.station (items_at s left (behind s event)) (items_at s left (behind s reply))) (i + 1)) (sym d) ∙ by_turn;
         }

@@ -5,7 +5,7 @@ use mathlib.Core.Bool.{Bool, true, false, cond, not, ◌&&◌}
 use mathlib.Core.List.{List}
 use mathlib.Core.Option.{Option, none}
 use native.Mathlib.Omega.{arith}
-use borrow.Author.Tests.{leb-true, eqb-true, not-true, not-false}
+use borrow.Author.Tests.{leb-true, eqb-true}
 use lib.Dec.{leb}
 use lib.ListN.{length, get_or, take, drop}
 use Rattle.octets.proofs.OctetLaws.{lent_part}
@@ -39,15 +39,15 @@ module _ (e out : List ℕ) {b : Bool} (s : b ≡ is_sized e) where
 
   -- none is carried out
   pub not_carried : {A : Type 0} (kinds : ℕ → ℕ → List ℕ → List (Option A)) → not (leb longest_reply (length out) && b) ≡ true → carried_out kinds e (length out) ≡ none
-  not_carried kinds g = by_test kinds false (not-true _ g)
+  not_carried kinds g = by_test kinds false g
 
   -- one is
   module _ (g : not (leb longest_reply (length out) && b) ≡ false) where
     pub carried : {A : Type 0} (kinds : ℕ → ℕ → List ℕ → List (Option A)) → carried_out kinds e (length out) ≡ of_kind kinds e (take (length e - event_octets) (drop event_octets e))
-    carried kinds = by_test kinds true (not-false _ g) ∙ ap (of_kind kinds e) (sym (lent_part event_octets e))
+    carried kinds = by_test kinds true g ∙ ap (of_kind kinds e) (sym (lent_part event_octets e))
 
     sized : is_sized e ≡ true
-    sized = sym s ∙ and_right (leb longest_reply (length out)) b (not-false _ g)
+    sized = sym s ∙ and_right (leb longest_reply (length out)) b g
 
     -- it has its first octets
     pub carried_length : event_octets ≤ length e
@@ -56,7 +56,7 @@ module _ (e out : List ℕ) {b : Bool} (s : b ≡ is_sized e) where
     -- its room is at most 4,096, and the output long enough
     pub carried_ready : {K : Type 0} → K → RoomReady K (room_in e) out
     carried_ready k = record {
-      ready = record { kept = k; output = leb-true longest_reply (length out) (and_left (leb longest_reply (length out)) b (not-false _ g)) };
+      ready = record { kept = k; output = leb-true longest_reply (length out) (and_left (leb longest_reply (length out)) b g) };
       room = leb-true (room_in e) most_octets (and_left (leb (room_in e) most_octets) _ (and_left (leb (room_in e) most_octets && leb (length_in e) most_octets) _ sized));
     }
 
@@ -68,27 +68,27 @@ module _ (room : ℕ) (out : List ℕ) where
   fits = leb longest_reply (length out) && leb room most_octets
 
   -- none is carried out
-  pub none_fits : {A : Type 0} (kinds : ℕ → ℕ → List ℕ → List (Option A)) (k t : ℕ) (s : List ℕ) → not fits ≡ true → carried_out_as kinds k t room s (length out) ≡ none
-  none_fits kinds k t s g = ap (λ (d : Bool). cond d (get_or (kinds t room s) k none) none) (not-true fits g)
+  pub none_fits : {A : Type 0} (kinds : ℕ → ℕ → List ℕ → List (Option A)) (k t : ℕ) (s : List ℕ) → fits ≡ false → carried_out_as kinds k t room s (length out) ≡ none
+  none_fits kinds k t s g = ap (λ (d : Bool). cond d (get_or (kinds t room s) k none) none) g
 
-  module _ (g : not fits ≡ false) where
+  module _ (g : fits ≡ true) where
     -- one is
     pub one_fits : {A : Type 0} (kinds : ℕ → ℕ → List ℕ → List (Option A)) (k t : ℕ) (s : List ℕ) → carried_out_as kinds k t room s (length out) ≡ get_or (kinds t room s) k none
-    one_fits kinds k t s = ap (λ (d : Bool). cond d (get_or (kinds t room s) k none) none) (not-false fits g)
+    one_fits kinds k t s = ap (λ (d : Bool). cond d (get_or (kinds t room s) k none) none) g
 
     -- the room is at most 4,096, and the output long enough
     pub fits_ready : {K : Type 0} → K → RoomReady K room out
     fits_ready k = record {
-      ready = record { kept = k; output = leb-true longest_reply (length out) (and_left (leb longest_reply (length out)) (leb room most_octets) (not-false fits g)) };
-      room = leb-true room most_octets (and_right (leb longest_reply (length out)) (leb room most_octets) (not-false fits g));
+      ready = record { kept = k; output = leb-true longest_reply (length out) (and_left (leb longest_reply (length out)) (leb room most_octets) g) };
+      room = leb-true room most_octets (and_right (leb longest_reply (length out)) (leb room most_octets) g);
     }
 
 -- the octets e of an event, as the code tests them
 module _ (e : List ℕ) {b : Bool} (s : b ≡ is_sized e) where
-  pub unsized : {A : Type 0} (kinds : ℕ → ℕ → List ℕ → List (Option A)) (n : ℕ) → not b ≡ true → carried_out kinds e n ≡ none
+  pub unsized : {A : Type 0} (kinds : ℕ → ℕ → List ℕ → List (Option A)) (n : ℕ) → b ≡ false → carried_out kinds e n ≡ none
   unfolding event_in
   unsized kinds n g =
-      ap (λ (d : Bool). cond (leb longest_reply n) (cond d (of_kind kinds e (drop event_octets e)) none) none) (sym s ∙ not-true _ g)
+      ap (λ (d : Bool). cond (leb longest_reply n) (cond d (of_kind kinds e (drop event_octets e)) none) none) (sym s ∙ g)
       ∙ both (leb longest_reply n) false (of_kind kinds e (drop event_octets e)) none
       ∙ none_left (leb longest_reply n) (of_kind kinds e (drop event_octets e))
     where
@@ -96,9 +96,9 @@ module _ (e : List ℕ) {b : Bool} (s : b ≡ is_sized e) where
       none_left true x = refl
       none_left false x = refl
 
-  module _ (g : not b ≡ false) where
+  module _ (g : b ≡ true) where
     right : is_sized e ≡ true
-    right = sym s ∙ not-false _ g
+    right = sym s ∙ g
 
     -- it has its first octets
     pub sized_length : event_octets ≤ length e
