@@ -1,7 +1,7 @@
 -- The invariant: configuring gives it, and every call keeps it.
 use Prim.Native.Nat.{ℕ, zero, suc, ◌-◌, ◌<◌, ◌≤◌}
 use mathlib.Core.Path.{◌≡◌, subst}
-use mathlib.Core.Bool.{true, false, not}
+use mathlib.Core.Bool.{true, false, not, cond}
 use mathlib.Core.List.{List, [], ◌∷◌}
 use native.Mathlib.Numerals.{add-one}
 use native.Mathlib.Omega.{arith}
@@ -52,7 +52,7 @@ all_kept (q ∷ rs) (suc n) r u h = (h.0, all_kept rs n r u h.1)
 pub least_unicast : (r : Report) (rs : List Report) → UnicastReport r → All UnicastReport rs → UnicastReport (least r rs)
 unfolding least
 least_unicast r [] u h = u
-least_unicast r (q ∷ rs) u h = least_unicast _ rs (on_cond UnicastReport (ltb q.total r.total) q r (λ t. h.0) (λ t. u)) h.1
+least_unicast r (q ∷ rs) u h = least_unicast (cond (ltb q.total r.total) q r) rs (on_cond UnicastReport (ltb q.total r.total) q r (λ t. h.0) (λ t. u)) h.1
 
 -- ---- what is left of a time that does not fire
 

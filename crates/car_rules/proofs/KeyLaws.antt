@@ -22,9 +22,9 @@ no_key (Joining t key) o = absurd (miss (0 ∷ 1 ∷ 2 ∷ 3 ∷ 4 ∷ []) 5 tt 
 no_key (Matched key) o = absurd (miss (0 ∷ 1 ∷ 2 ∷ 3 ∷ 4 ∷ []) 6 tt o)
 
 module _ (c : Car) (g : c.config.good ≡ true) where
-  pub key_in : (st : State) → c.state ≡ st → key_in st ≡ key_query c
+  pub key_in_lem : (st : State) → c.state ≡ st → key_in st ≡ key_query c
   unfolding key_query
-  key_in st e = sym (pass c.config.good 16 _ g ∙ ap key_in e)
+  key_in_lem st e = sym (pass c.config.good 16 _ g ∙ ap key_in e)
 
   pub key_elsewhere : OneOf (0 ∷ 1 ∷ 2 ∷ 3 ∷ 4 ∷ []) (tag_of the_type c.state) → no 8 ≡ key_query c
-  key_elsewhere o = sym (no_key c.state o) ∙ key_in c.state refl
+  key_elsewhere o = sym (no_key c.state o) ∙ key_in_lem c.state refl
