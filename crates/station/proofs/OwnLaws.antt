@@ -119,17 +119,17 @@ own_here s c i e =
 
 module _ (s : Station) (c : CarAddress) (m : RecordMessage) (f : Record → Checked Kept) (at : AtOwn s.config.edition c m (first_result s.config.exempt s.records) f) where
   -- by the car's records
-  at_own : (a : ℕ) → s.state ≡ Matching a → (own : List Record) → mine c s.records ≡ own
+  at_own_lem : (a : ℕ) → s.state ≡ Matching a → (own : List Record) → mine c s.records ≡ own
       → state_rule s.config s.state s.records c (for_record m) ≡ and_then (put_back (at_own own f)) (λ (x : Change). yes (changed s.config s.state s.records c x))
   unfolding state_rule
-  at_own a e own q =
+  at_own_lem a e own q =
       ap (λ (st : State). state_rule s.config st s.records c (for_record m)) e
       ∙ ap₂ (λ (x : Checked Change) (st : State). and_then x (λ (z : Change). yes (changed s.config st s.records c z)))
       (at a (free_places s.records) (mine c s.records) ∙ ap (λ (l : List Record). put_back (at_own l f)) q) (sym e)
 
   -- 11
   pub own_none : (a : ℕ) → s.state ≡ Matching a → mine c s.records ≡ [] → state_rule s.config s.state s.records c (for_record m) ≡ no 11
-  own_none a e q = at_own a e [] q
+  own_none a e q = at_own_lem a e [] q
 
   refused_in : (n : ℕ) (st : State) (p : Found) → s.state ≡ st → place_of c s.records ≡ p → own_place st p ≡ no n → state_rule s.config s.state s.records c (for_record m) ≡ no n
   unfolding own_place state_rule
@@ -155,4 +155,4 @@ module _ (s : Station) (c : CarAddress) (m : RecordMessage) (f : Record → Chec
   own_settled i d x e w q =
       ap (settled s i c) q
       ∙ settle_put i w (f (get_or s.records i d))
-      ∙ sym (at_own e.0 e.1 _ (w.mine d))
+      ∙ sym (at_own_lem e.0 e.1 _ (w.mine d))
