@@ -1,0 +1,27 @@
+-- `words::fields::profiles` meets its contract, by the phase.
+use Prim.Native.Nat.{◌-◌, min}
+use mathlib.Core.Path.{sym, ap, ◌∙◌}
+use native.Mathlib.Omega.{arith}
+use Rattle.rules.proofs.TryLaws.{some_sounds}
+use Rattle.words.proofs.PhaseLaws.{as_reported}
+use Rattle.words.specs.Words.{some_of, profiles_of}
+use borrow.Enum.Refused.{opened}
+use Rattle.words.proofs.fields.profiles.Goals as goal
+
+pub overflow_sub-most : goal.overflow_sub-most
+overflow_sub-most c = let a = c.args in omega (arith, c.sounds-most.ensures, some_sounds a.edition a.later)
+
+pub returns-in-Asked : goal.returns-in-Asked
+unfolding profiles_of
+returns-in-Asked c = let a = c.args in sym (ap (λ q. profiles_of a.edition a.later q a.word) c.in-Asked.is)
+
+pub returns-in-Sounding : goal.returns-in-Sounding
+unfolding profiles_of
+returns-in-Sounding c =
+    let a = c.args in
+    c.at_most_count.ensures ∙ ap (λ m. min (m - 1) a.word) c.sounds-most.ensures ∙ sym (ap (λ q. profiles_of a.edition a.later q a.word) c.in-Sounding.is)
+
+pub returns-in_default : goal.returns-in_default
+returns-in_default c =
+    let a = c.args in
+    c.some.ensures ∙ ap (λ m. some_of m a.word) c.sounds-most.ensures ∙ as_reported a.edition a.later a.phase a.word (opened c.in_default.in_default-own.keys3)

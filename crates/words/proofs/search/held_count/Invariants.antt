@@ -1,0 +1,11 @@
+-- `words::search::held_count` meets its contract: the records passed are counted.
+use Prim.Native.Nat.{◌-◌}
+use Rattle.rules.specs.Constants.{record_count}
+use Rattle.words.proofs.SearchLaws.{Counting}
+use Rattle.words.proofs.search.held_count.Given as goal
+
+abbrev pub invariant-loop-i : goal.invariant-loop-i
+invariant-loop-i l = Counting l.words l.i l.n
+
+abbrev pub decreases-loop-i : goal.decreases-loop-i
+decreases-loop-i l = record_count - l.i

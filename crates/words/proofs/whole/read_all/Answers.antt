@@ -1,0 +1,15 @@
+-- `words::whole::read_all` meets its contract: the records before i are read.
+use Rattle.words.proofs.WholeLaws.{read_next, read_end}
+use borrow.Author.Rules.{rules}
+use native.Mathlib.Omega.{arith}
+use Rattle.words.proofs.whole.read_all.Goals as goal
+
+pub loop-i-init : goal.loop-i-init
+loop-i-init c = record { turns = search rules; size = search rules; done = search rules }
+
+pub loop-i-preserved : goal.loop-i-preserved
+loop-i-preserved c =
+    read_next c.args.words.now c.args.sums.now c.args.spread.now c.loop-i.rs c.loop-i.i c.loop-i.invariant _ _ (omega arith) c.read.ensures
+
+pub returns : goal.returns
+returns c = read_end _ _ _ _ _ c.loop-i.invariant c.loop-i-test.false
