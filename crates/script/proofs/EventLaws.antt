@@ -38,11 +38,11 @@ module _ (e out : List ℕ) {b : Bool} (s : b ≡ is_sized e) where
       ∙ ap (λ (d : Bool). cond d (of_kind kinds e (drop event_octets e)) none) (ap (λ (d : Bool). leb longest_reply (length out) && d) (sym s) ∙ g)
 
   -- none is carried out
-  pub not_carried : {A : Type 0} (kinds : ℕ → ℕ → List ℕ → List (Option A)) → not (leb longest_reply (length out) && b) ≡ true → carried_out kinds e (length out) ≡ none
+  pub not_carried : {A : Type 0} (kinds : ℕ → ℕ → List ℕ → List (Option A)) → leb longest_reply (length out) && b ≡ false → carried_out kinds e (length out) ≡ none
   not_carried kinds g = by_test kinds false g
 
   -- one is
-  module _ (g : not (leb longest_reply (length out) && b) ≡ false) where
+  module _ (g : leb longest_reply (length out) && b ≡ true) where
     pub carried : {A : Type 0} (kinds : ℕ → ℕ → List ℕ → List (Option A)) → carried_out kinds e (length out) ≡ of_kind kinds e (take (length e - event_octets) (drop event_octets e))
     carried kinds = by_test kinds true g ∙ ap (of_kind kinds e) (sym (lent_part event_octets e))
 

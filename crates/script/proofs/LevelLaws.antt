@@ -11,7 +11,7 @@ use lib.ListN.{length, take, set, length-set}
 use lib.Seq.{take-suc-set}
 use mir.Syntax.{w16, w32}
 use mir.Val.{SFits, to_z, of_z}
-use mir.Facts.{to_z_of_z, to_z_pos}
+use mir.Facts.{to_z-of_z, to_z_pos}
 use Rattle.octets.specs.Octets.{low_value}
 use Rattle.script.specs.Layout.{level_of, levels_at}
 
@@ -33,14 +33,14 @@ module _ (n : ℕ) where
     wide_fits = subst (SFits w32) (sym wide) (record { sfits = omega arith })
 
     got : to_z w32 (of_z w32 (to_z w32 n -ℤ pos (2 ^ 16))) ≡ negsuc (2 ^ 16 - suc n)
-    got = to_z_of_z wide_fits ∙ wide
+    got = to_z-of_z {w = w32} wide_fits ∙ wide
 
     pub narrow_fits : SFits w16 (to_z w32 (of_z w32 (to_z w32 n -ℤ pos (2 ^ 16))))
     narrow_fits = subst (SFits w16) (sym got) (record { sfits = omega arith })
 
     pub negative : to_z w16 (of_z w16 (to_z w32 (of_z w32 (to_z w32 n -ℤ pos (2 ^ 16))))) ≡ level_of n
     unfolding level_of
-    negative = to_z_of_z narrow_fits ∙ got ∙ sym below ∙ ap (λ (b : Bool). cond b (pos n) (pos n -ℤ pos (2 ^ 16))) (sym (le-ltb n (2 ^ 15) h))
+    negative = to_z-of_z {w = w16} narrow_fits ∙ got ∙ sym below ∙ ap (λ (b : Bool). cond b (pos n) (pos n -ℤ pos (2 ^ 16))) (sym (le-ltb n (2 ^ 15) h))
 
 -- ---- levels one after another
 
