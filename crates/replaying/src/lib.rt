@@ -13,9 +13,9 @@ ghost use Rattle.replaying.specs.Replaying.{station_of, same_octets, first_diffe
 ghost use Rattle.replaying.specs.Answers.{replayed_of};
 ghost use Rattle.replaying.specs.Private.{Ready, Stand, Listed, Turned};
 
-use session_log::{Cause, Configuration, ITEM_OCTETS, Places, ReadAnswer};
 use rules::{LEAST_OUTPUT, Station};
 use script::LONGEST_REPLY;
+use session_log::{Cause, Configuration, ITEM_OCTETS, Places, ReadAnswer};
 
 // A scratch output that the longest reply just fits.
 type Output = [u8; LONGEST_REPLY];

@@ -1,5 +1,5 @@
 -- In every group of a record that counts a profile, the least value is at most the greatest.
-use Prim.Native.Nat.{ℕ, zero, suc, ◌-◌, min, max, ◌≤◌}
+use Prim.Native.Nat.{ℕ, zero, suc, min, max, ◌≤◌}
 use mathlib.Core.Path.{◌≡◌, refl, ◌∙◌, ap}
 use mathlib.Core.Bool.{Bool, true, false, cond}
 use mathlib.Core.List.{List, [], ◌∷◌}

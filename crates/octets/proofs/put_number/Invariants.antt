@@ -1,5 +1,5 @@
 -- `octets::put_number` meets its contract: what is still to be written, from the last octet on.
-use Prim.Native.Nat.{◌-◌, ◌≤◌}
+use Prim.Native.Nat.{◌≤◌}
 use lib.ListN.{length}
 use lib.Seq.{sets}
 use mathlib.Core.Path.{◌≡◌}

@@ -1,6 +1,5 @@
 -- From event to event.
 use borrow.Author.Tests.{not-true, not-false}
-use Prim.Native.Nat.{◌-◌}
 use native.Mathlib.Omega.{arith}
 use Rattle.replaying.proofs.WalkLaws.{going_start, going_end, going_stand, going_differs, going_next}
 use borrow.Author.Rules.{rules}
@@ -13,8 +12,7 @@ loop-i-init c =
 
 pub one_event-turn-requires : goal.one_event-turn-requires
 one_event-turn-requires c =
-    let a = c.args in
-    (
+    let a = c.args in (
       record { kept = c.loop-i.invariant.0.kept; output = c.loop-i.invariant.1.0 },
       going_stand a.station a.log.now a.count a.events a.replies c.loop-i.s c.loop-i.event c.loop-i.reply c.loop-i.i c.loop-i.invariant.0 (omega arith),
     )
@@ -38,8 +36,7 @@ behind-reply-requires c =
 
 pub loop-i-preserved : goal.loop-i-preserved
 loop-i-preserved c =
-    let a = c.args in
-    (
+    let a = c.args in (
       rw (c.behind-event.ensures, c.behind-reply.ensures)
           (going_next a.station a.log.now a.count a.events a.replies c.loop-i.s c.loop-i.event c.loop-i.reply c.loop-i.i c.loop-i.invariant.0 (omega arith) c.one_event-turn.result c.one_event-turn.ensures (not-false _ c.if-not-turn.false)),
       search rules,

@@ -1,5 +1,4 @@
 -- The octets from i on decide.
-use Prim.Native.Nat.{◌-◌}
 use native.Mathlib.Omega.{arith}
 use Rattle.replaying.proofs.SameLaws.{unlike_sizes, left_start, left_end, left_differs, left_next}
 use Rattle.replaying.proofs.same_octets.Goals as goal

@@ -1,5 +1,5 @@
 -- `rules::told_in` meets its contract. The loop's invariant: no record passed is the car's.
-use Prim.Native.Nat.{◌-◌, ◌<◌}
+use Prim.Native.Nat.{◌<◌}
 use mathlib.Core.Path.{sym, ◌∙◌}
 use native.Mathlib.Omega.{arith}
 use lib.ListN.{length}

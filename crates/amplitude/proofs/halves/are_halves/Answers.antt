@@ -1,5 +1,4 @@
 -- The invariant says what was tested, and what is left.
-use Prim.Native.Nat.{◌-◌}
 use mathlib.Core.Path.{refl}
 use Rattle.amplitude.specs.Halves.{is_half}
 use Rattle.amplitude.proofs.RunLaws.{tested_more, tested_all}

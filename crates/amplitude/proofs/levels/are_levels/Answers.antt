@@ -1,5 +1,4 @@
 -- The invariant says what was tested, and what is left.
-use Prim.Native.Nat.{◌-◌}
 use mathlib.Core.Path.{refl}
 use lib.IntN.{pos}
 use lib.ListN.{get_or}

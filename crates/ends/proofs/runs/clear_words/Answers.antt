@@ -1,5 +1,4 @@
 -- `ends::runs::clear_words` meets its contract: so many are cleared so far.
-use Rattle.std.proofs.Common.{◌-◌}
 use Rattle.ends.proofs.CopyLaws.{cleared_start, cleared_next, cleared_end}
 use Rattle.ends.proofs.runs.clear_words.Goals as goal
 

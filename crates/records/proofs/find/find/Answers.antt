@@ -1,5 +1,5 @@
 -- `records::find::find` meets its contract: the loop looks for the first own record, and keeps the first free place.
-use Prim.Native.Nat.{◌-◌, ◌<◌}
+use Prim.Native.Nat.{◌<◌}
 use Rattle.records.proofs.PlaceLaws.{searching_start, searching_own, searching_next, searching_end}
 use Rattle.rules.proofs.IndexLaws.{passed}
 use borrow.Author.Rules.{rules}

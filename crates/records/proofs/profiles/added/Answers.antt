@@ -1,5 +1,5 @@
 -- `records::profiles::added` meets its contract: the loop adds each value in turn.
-use Prim.Native.Nat.{ℕ, ◌+◌, ◌-◌}
+use Prim.Native.Nat.{ℕ, ◌+◌}
 use Rattle.records.proofs.LoopLaws.{merging_start, merging_next, merging_end, room_next}
 use Rattle.rules.proofs.IndexLaws.{passed}
 use borrow.Author.Rules.{rules}

@@ -1,5 +1,5 @@
 -- `records::profiles::widened` meets its contract: the loop takes each value into the least and the greatest in turn.
-use Prim.Native.Nat.{◌-◌, min, max}
+use Prim.Native.Nat.{min, max}
 use Rattle.rules.proofs.IndexLaws.{passed}
 use Rattle.rules.specs.Records.{widened}
 use Rattle.records.proofs.LoopLaws.{merging_start, merging_next, merging_end}

@@ -1,7 +1,4 @@
 -- By the test; then the call.
-use mathlib.Core.Bool.{◌&&◌}
-use lib.Dec.{eqb, ltb}
-use lib.ListN.{length}
 use Rattle.script.proofs.CallLaws.{nothing_done, of_station, alone_fits, alone}
 use Rattle.script.proofs.doing.pilot.Goals as goal
 

@@ -1,5 +1,5 @@
 -- The records ticked so far, and their reports.
-use Prim.Native.Nat.{◌-◌, ◌<◌}
+use Prim.Native.Nat.{◌<◌}
 use native.Mathlib.Omega.{arith}
 use borrow.Author.Rules.{rules}
 use lib.ListN.{length}
@@ -30,8 +30,7 @@ pub write_report-report-requires : goal.write_report-report-requires
 write_report-report-requires c =
     let inside : c.loop-i.i < length c.args.records = search rules in
     let w = c.loop-i.invariant in
-    let h = inside in
-    (
+    let h = inside in (
       tick_sendable _ _ _ _ _ _ _ _ _ _ w h c.requires _ _ c.tick_record-t.ensures c.if-t.true,
       (tick_some _ _ _ _ _ _ _ _ _ _ w h c.requires _ _ c.tick_record-t.ensures c.if-t.true, tick_part _ _ _ _ _ _ _ _ _ _ w h c.requires _ _ c.tick_record-t.ensures c.if-t.true),
     )
@@ -57,8 +56,8 @@ loop-i-preserved c =
     let w = c.loop-i.invariant in
     let h = inside in
     elim c.if-t.branch [
-      then-t b ↦ rw (b.out-is, b.sent-is, b.octets-is) (tick_reports _ _ _ _ _ _ _ _ _ _ w h c.requires _ _ c.tick_record-t.ensures b.if-t.true b.write_report-report.new.out b.write_report-report.result b.write_report-report.ensures b.write_report-report.auto.out)
-    | else-t b ↦ rw (b.out-is, b.sent-is, b.octets-is) (tick_waits _ _ _ _ _ _ _ _ _ _ w h c.requires _ _ c.tick_record-t.ensures b.if-t.false)
+      | then-t b ↦ rw (b.out-is, b.sent-is, b.octets-is) (tick_reports _ _ _ _ _ _ _ _ _ _ w h c.requires _ _ c.tick_record-t.ensures b.if-t.true b.write_report-report.new.out b.write_report-report.result b.write_report-report.ensures b.write_report-report.auto.out)
+      | else-t b ↦ rw (b.out-is, b.sent-is, b.octets-is) (tick_waits _ _ _ _ _ _ _ _ _ _ w h c.requires _ _ c.tick_record-t.ensures b.if-t.false)
     ]
 
 pub shape_of-out : goal.shape_of-out

@@ -1,5 +1,5 @@
 -- The confirmations sent so far.
-use Prim.Native.Nat.{◌-◌, ◌<◌}
+use Prim.Native.Nat.{◌<◌}
 use native.Mathlib.Omega.{arith}
 use borrow.Author.Rules.{rules}
 use lib.ListN.{length}
@@ -48,8 +48,8 @@ loop-i-preserved c =
     let w = c.loop-i.invariant in
     let h = inside in
     elim c.match-confirmation.branch [
-      in-Nothing b ↦ rw (b.out-is, b.sent-is) (confirm_none _ _ _ _ _ _ _ _ w _ h _ c.confirmation_of-confirmation.ensures b.in-Nothing.is)
-    | in-Cnf b ↦ rw (b.out-is, b.sent-is) (confirm_one _ _ _ _ _ _ _ _ w _ h _ c.confirmation_of-confirmation.ensures c.requires _ _ b.in-Cnf.is b.confirm.new.out b.confirm.ensures b.confirm.auto.out)
+      | in-Nothing b ↦ rw (b.out-is, b.sent-is) (confirm_none _ _ _ _ _ _ _ _ w _ h _ c.confirmation_of-confirmation.ensures b.in-Nothing.is)
+      | in-Cnf b ↦ rw (b.out-is, b.sent-is) (confirm_one _ _ _ _ _ _ _ _ w _ h _ c.confirmation_of-confirmation.ensures c.requires _ _ b.in-Cnf.is b.confirm.new.out b.confirm.ensures b.confirm.auto.out)
     ]
 
 pub shape_of-out : goal.shape_of-out

@@ -10,7 +10,7 @@ use Rattle.station.proofs.ComesLaws.{comes_as}
 use Rattle.receiving.specs.Judge.{request_of}
 use Rattle.receiving.specs.declared.judge.Request.{Request}
 use Rattle.receiving.specs.declared.judge.Request.TheVariants as request
-use mathlib.Core.Path.{◌≡◌, sym, ap, ap₂, ◌∙◌, subst}
+use mathlib.Core.Path.{sym, ap, ap₂, ◌∙◌, subst}
 use Rattle.station.proofs.frames.accept.Goals as goal
 
 pub at_own-requires : goal.at_own-requires

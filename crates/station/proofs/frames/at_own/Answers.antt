@@ -6,11 +6,10 @@ use Rattle.receiving.specs.Judge.{own_message_of}
 use Rattle.ends.proofs.ListLaws.{length_mapped, all_at}
 use Rattle.rules.specs.Constants.{record_count}
 use Rattle.rules.specs.Invariant.{GoodRecord}
-use Rattle.rules.specs.declared.Record.{Record}
 use Rattle.station.proofs.ComesLaws.{comes_as, comes_refused}
 use Rattle.station.proofs.OwnLaws.{OwnHere, own_here, change_own, not_placed, own_settled}
 use Rattle.station.proofs.KeptLaws.{kept_good}
-use lib.ListN.{get_or, length}
+use lib.ListN.{length}
 use mathlib.Core.Path.{◌≡◌, sym, ap, ◌∙◌}
 use native.Mathlib.Omega.{arith}
 use borrow.Author.Rules.{rules}
