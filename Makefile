@@ -14,7 +14,7 @@ LIBDIR ?= $(PREFIX)/lib
 ARCHIVE = $(built)
 
 built = target/staticlib/liblahzavar.a
-sources := $(shell find crates crates.txt -type f -not -path '*/must-fail/*')
+sources := $(shell find crates crates.txt -type f -not -path '*/must-fail/*' -not -path '*/out/*')
 number = $(shell sed -n 's/^.define LAHZAVAR_$(1) //p' include/lahzavar.h)
 version = $(call number,MAJOR).$(call number,MINOR).$(call number,PATCH)
 place = DESTDIR='$(DESTDIR)' PREFIX='$(PREFIX)' INCLUDEDIR='$(INCLUDEDIR)' LIBDIR='$(LIBDIR)' ARCHIVE='$(ARCHIVE)' \
@@ -25,10 +25,8 @@ place = DESTDIR='$(DESTDIR)' PREFIX='$(PREFIX)' INCLUDEDIR='$(INCLUDEDIR)' LIBDI
 
 all: $(built)
 
-# The check proves crates side by side, where the second command takes them one by one.
 $(built): $(sources)
-	rt check words station car car_words
-	rt staticlib lahzavar
+	tools/proved lahzavar
 
 install: $(if $(filter file,$(origin ARCHIVE)),$(built))
 	@$(place) install

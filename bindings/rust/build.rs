@@ -44,7 +44,7 @@ fn not_found(folders: &[PathBuf]) -> ! {
         eprintln!("    {}", folder.display());
     }
     eprintln!(
-        "`make` or `rt staticlib lahzavar` in the repository builds it, in target/staticlib."
+        "`make` or `tools/proved lahzavar` in the repository builds it, in target/staticlib."
     );
     eprintln!("Where it stands elsewhere, the environment variable {NAMED} names the folder.");
     exit(1);

@@ -93,7 +93,7 @@
 //!
 //! # Linking
 //!
-//! The library, `liblahzavar.a`, is built by `make`, or by `rt staticlib lahzavar`, in the
+//! The library, `liblahzavar.a`, is built by `make`, or by `tools/proved lahzavar`, in the
 //! repository's folder, which writes it to `target/staticlib`. From there this crate links it, or
 //! from the folder that the environment variable `LAHZAVAR_LIB_DIR` names when the crate is built.
 //! A relative folder is taken from where cargo was started, or else from this crate's own folder.
