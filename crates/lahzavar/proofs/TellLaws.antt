@@ -10,7 +10,6 @@ use Rattle.messages.specs.declared.Refusal.{Refusal}
 use Rattle.messages.specs.Answers.{number_of}
 use Rattle.messages.specs.Reading.{Checked, no, yes}
 use Rattle.messages.specs.Table.{group_count}
-use Rattle.rules.specs.declared.HeardAnswer.{HeardAnswer}
 use Rattle.rules.specs.declared.HeardAnswer.TheVariants as heard_answer
 use Rattle.rules.specs.declared.Queried.{Queried}
 use Rattle.rules.specs.declared.Spread.{Spread}
