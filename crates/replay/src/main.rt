@@ -10,9 +10,10 @@ mod text;
 ghost use Rattle.std.specs.Prelude.{◌≡◌, ◌+◌, length};
 ghost use Rattle.session_log.specs.Layout.{most_octets};
 
-use libc::{STDIN_FILENO, STDOUT_FILENO};
-use session_log::MOST_OCTETS;
 use replaying::Replayed;
+use script::LONGEST_REPLY;
+use session_log::MOST_OCTETS;
+use std::io::{self, Write};
 
 // One octet more than a log may have: a longer input is refused like it.
 const INPUT_OCTETS: usize = MOST_OCTETS + 1;
@@ -28,32 +29,34 @@ fn input() -> Input
 }
 
 // Prints a number and a line end.
-fn print(n: u64) {
-    io::print_decimal(STDOUT_FILENO, n);
-    io::write_all(STDOUT_FILENO, b"\n");
+fn print(rt: &impl Print, n: u64) -> io::Result<()> {
+    println!(rt; "{n}")
 }
 
-// Replays a log and prints the answer.
-fn answer(log: &[u8], out: &mut [u8]) {
+// Replays a log, prints the answer and says what it means.
+fn answer<W: Write>(rt: &impl Print, to: &mut W, log: &[u8], out: &mut [u8]) -> io::Result<()> {
     let replayed = replaying::replay(log);
     match replayed {
         Replayed::Refused(cause) => {
-            io::write_all(STDOUT_FILENO, b"-");
-            print(session_log::cause_number(cause) as u64);
-            causes::tell(log, cause);
+            rt.print("-")?;
+            print(rt, session_log::cause_number(cause) as u64)?;
+            causes::tell(to, log, cause)
         }
         Replayed::Difference(n) => {
-            print(n as u64);
+            print(rt, n as u64)?;
             if 0 < n {
-                differences::tell(log, n, out);
+                differences::tell(to, log, n, out)?;
             }
+            Ok(())
         }
     }
 }
 
-fn main() {
+fn main(rt: HostRuntime) -> io::Result<()> {
     let mut log = input();
-    let mut out = io::large_buffer();
-    let size = io::read_full(STDIN_FILENO, &mut log);
-    answer(&log[0..size], &mut out);
+    let mut out = [0u8; LONGEST_REPLY];
+    let mut to = rt.stderr();
+    let size = script_io::read_full(&mut rt.stdin(), &mut log)?;
+    answer(&rt, &mut to, &log[0..size], &mut out)?;
+    to.flush()
 }

@@ -1,7 +1,8 @@
-// Text on standard error.
-ghost use Rattle.std.specs.Prelude.{◌≡◌, ◌<◌, ◌^◌};
+// Text for a person.
+ghost use Rattle.std.specs.Prelude.{◌≡◌, ◌<◌, ◌^◌, OnOk};
+ghost use Rattle.std.specs.Io.KnownBytes.{Appends};
 
-use libc::STDERR_FILENO;
+use std::io::{self, Write};
 
 // A wider number.
 pub(crate) fn wide(x: u32) -> usize
@@ -11,21 +12,21 @@ pub(crate) fn wide(x: u32) -> usize
 }
 
 // Writes text.
-pub(crate) fn say(text: &[u8]) {
-    io::write_all(STDERR_FILENO, text);
+pub(crate) fn say<W: Write>(to: &mut W, text: &str) -> io::Result<()>
+    ensures { OnOk result (Appends (W.contents to.old) (W.contents to.new) text.now) }
+{
+    to.write_all(text.as_bytes())
 }
 
 // Writes a number.
-pub(crate) fn number(n: u64) {
-    io::print_decimal(STDERR_FILENO, n);
+pub(crate) fn number<W: Write>(to: &mut W, n: u64) -> io::Result<()> {
+    write!(to, "{n}")
 }
 
 // Writes octets, each in two hexadecimal digits, and a line end.
-pub(crate) fn octets(s: &[u8]) {
-    let mut i: usize = 0;
-    while i < s.len() {
-        io::print_hex(STDERR_FILENO, octets::number_at(s, i, 1), 2);
-        i += 1;
+pub(crate) fn octets<W: Write>(to: &mut W, s: &[u8]) -> io::Result<()> {
+    for octet in s {
+        write!(to, "{octet:02x}")?;
     }
-    say(b"\n");
+    say(to, "\n")
 }

@@ -1,64 +1,94 @@
-// Reading a script's events from standard input and writing their replies to standard output, for the programs that answer
-// scripts. What is read and written no contract can say.
+// Reading a script's events and writing their replies, for the programs that answer scripts. The contracts name the octets that are
+// read and written, where the reader and the writer say which these are; what the system gives and takes no contract can say.
 #![tactic(auto)]
 
-ghost use Rattle.std.specs.Prelude.{◌≡◌, true, false, ◌<◌, ◌≤◌, length};
+ghost use Rattle.std.specs.Prelude.{◌≡◌, true, false, ◌+◌, ◌<◌, ◌≤◌, length, take, OnOk, OnErr, IfOk, IfSome};
+ghost use Rattle.std.specs.Io.KnownBytes.{Keeps, Consumes, Appends, IsAtEnd};
+ghost use Rattle.script.specs.Events.{event_octets, length_in};
 
-use libc::{STDERR_FILENO, STDIN_FILENO, STDOUT_FILENO};
 use script::{EVENT_OCTETS, MOST_OCTETS};
+use std::io::{self, Read, Write};
 
 // Says that the input breaks the layout: the script does not go on.
-pub fn broken() -> bool
-    ensures { result ≡ false }
+pub fn broken(rt: &impl Eprint) -> io::Result<bool>
+    ensures { IfOk result (λ on. on ≡ false) }
 {
-    io::write_all(STDERR_FILENO, b"the input breaks the layout of a script\n");
-    false
+    rt.eprintln("the input breaks the layout of a script")?;
+    Ok(false)
+}
+
+// Reads until the slice is full or the input ends, and gives how many octets it has read.
+pub fn read_full<R: Read>(input: &mut R, octets: &mut [u8]) -> io::Result<usize>
+    ensures within { IfOk result (λ n. n ≤ length octets.new) }
+    ensures read { IfOk result (λ n. Consumes (R.remaining input.old) (R.remaining input.new) (take n octets.new)) }
+    ensures ended { IfOk result (λ n. n < length octets.new → IsAtEnd (R.remaining input.new)) }
+{
+    let mut done = 0;
+    while done < octets.len() {
+        let n = input.read(&mut octets[done..])?;
+        if n == 0 {
+            return Ok(done);
+        }
+        done += n;
+    }
+    Ok(done)
 }
 
 // Reads an event, and gives how many octets it has, or 0 where the input ends early, its length is over 4,096 or the slice is too short for it.
-pub fn read_event(event: &mut [u8]) -> usize
-    ensures { result ≤ length event.new }
+pub fn read_event<R: Read>(input: &mut R, event: &mut [u8]) -> io::Result<usize>
+    ensures within { IfOk result (λ n. n ≤ length event.new) }
+    ensures read { IfOk result (λ n. 0 < n → Consumes (R.remaining input.old) (R.remaining input.new) (take n event.new)) }
+    ensures whole { IfOk result (λ n. 0 < n → n ≡ event_octets + length_in event.new) }
 {
     if event.len() < EVENT_OCTETS + MOST_OCTETS {
-        return 0;
+        return Ok(0);
     }
-    if io::read_full(STDIN_FILENO, &mut event[0..EVENT_OCTETS]) < EVENT_OCTETS {
-        return 0;
+    if read_full(input, &mut event[0..EVENT_OCTETS])? < EVENT_OCTETS {
+        return Ok(0);
     }
     let size = script::event_length(event) as usize;
     if MOST_OCTETS < size {
-        return 0;
+        return Ok(0);
     }
     let end = EVENT_OCTETS + size;
-    if io::read_full(STDIN_FILENO, &mut event[EVENT_OCTETS..end]) < size {
-        return 0;
+    if read_full(input, &mut event[EVENT_OCTETS..end])? < size {
+        return Ok(0);
     }
-    end
+    Ok(end)
 }
 
 // Writes the reply that the output's first octets are, and gives whether the script goes on. No octets are the reply to an event
 // that breaks the layout.
-pub fn write_reply(out: &[u8], octets: usize) -> bool
-    ensures { result ≡ true → (0 < octets) × (octets ≤ length out.now) }
+pub fn write_reply<W: Write>(
+    rt: &impl Eprint,
+    replies: &mut W,
+    out: &[u8],
+    octets: usize,
+) -> io::Result<bool>
+    ensures fits { IfOk result (λ on. on ≡ true → (0 < octets) × (octets ≤ length out.now)) }
+    ensures written { IfOk result (λ on. on ≡ true → Appends (W.contents replies.old) (W.contents replies.new) (take octets out.now)) }
+    ensures broken { IfOk result (λ on. on ≡ false → Keeps (W.contents replies.old) (W.contents replies.new)) }
+    ensures goes_on { IfOk result (λ on. 0 < octets → octets ≤ length out.now → on ≡ true) }
 {
     if 0 < octets {
         if octets <= out.len() {
-            return io::write_all(STDOUT_FILENO, &out[0..octets]);
+            replies.write_all(&out[0..octets])?;
+            return Ok(true);
         }
     }
-    broken()
+    broken(rt)
 }
 
 // Whether the script goes on with so many events left; with none left the input is to end.
-pub fn goes_on(left: u64) -> bool
-    ensures { (result ≡ true → 0 < left) × (result ≡ false → left ≡ 0) }
+pub fn goes_on<R: Read>(rt: &impl Eprint, input: &mut R, left: u64) -> io::Result<bool>
+    ensures { IfOk result (λ on. (on ≡ true → 0 < left) × (on ≡ false → left ≡ 0)) }
 {
     if left > 0 {
-        return true;
+        return Ok(true);
     }
     let mut more = [0u8; 1];
-    if io::read_full(STDIN_FILENO, &mut more) > 0 {
-        broken();
+    if read_full(input, &mut more)? > 0 {
+        broken(rt)?;
     }
-    false
+    Ok(false)
 }
