@@ -2,7 +2,7 @@
 // read and written, where the reader and the writer say which these are; what the system gives and takes no contract can say.
 #![tactic(auto)]
 
-ghost use Rattle.std.specs.Prelude.{◌≡◌, true, false, ◌+◌, ◌<◌, ◌≤◌, length, take, OnOk, OnErr, IfOk, IfSome};
+ghost use Rattle.std.specs.Prelude.{◌≡◌, true, false, ◌+◌, ◌<◌, ◌≤◌, length, take, OnErr, IfOk};
 ghost use Rattle.std.specs.Io.KnownBytes.{Keeps, Consumes, Appends, IsAtEnd};
 ghost use Rattle.script.specs.Events.{event_octets, length_in};
 
@@ -22,6 +22,7 @@ pub fn read_full<R: Read>(input: &mut R, octets: &mut [u8]) -> io::Result<usize>
     ensures within { IfOk result (λ n. n ≤ length octets.new) }
     ensures read { IfOk result (λ n. Consumes (R.remaining input.old) (R.remaining input.new) (take n octets.new)) }
     ensures ended { IfOk result (λ n. n < length octets.new → IsAtEnd (R.remaining input.new)) }
+    ensures err { OnErr result (length octets.new ≡ length octets.old) }
 {
     let mut done = 0;
     while done < octets.len() {
@@ -39,6 +40,7 @@ pub fn read_event<R: Read>(input: &mut R, event: &mut [u8]) -> io::Result<usize>
     ensures within { IfOk result (λ n. n ≤ length event.new) }
     ensures read { IfOk result (λ n. 0 < n → Consumes (R.remaining input.old) (R.remaining input.new) (take n event.new)) }
     ensures whole { IfOk result (λ n. 0 < n → n ≡ event_octets + length_in event.new) }
+    ensures err { OnErr result (length event.new ≡ length event.old) }
 {
     if event.len() < EVENT_OCTETS + MOST_OCTETS {
         return Ok(0);
