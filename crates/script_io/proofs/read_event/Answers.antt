@@ -4,13 +4,13 @@ use Rattle.std.proofs.lemmas.Slice.{take-put_mid_below}
 use Rattle.octets.specs.Octets.{low_value}
 use Rattle.octets.proofs.OctetLaws.{low_take}
 use Rattle.script.specs.Events.{length_in}
-use Rattle.script_io.proofs.Reading.{Consumes-both}
+use Rattle.script_io.proofs.Reading.{consumes_both}
 use Rattle.script_io.proofs.read_event.Goals as goal
 use borrow.Rule.Slice.PartMut.{put_mid}
 
 -- the length stands in front of what is read behind the first octets
-length_in-behind : (k : ℕ) (xs rest ys : List ℕ) → length xs ≡ 16 → length_in (put_mid 16 k (xs ++ rest) ys) ≡ length_in (xs ++ rest)
-length_in-behind k xs rest ys long =
+length_in_behind : (k : ℕ) (xs rest ys : List ℕ) → length xs ≡ 16 → length_in (put_mid 16 k (xs ++ rest) ys) ≡ length_in (xs ++ rest)
+length_in_behind k xs rest ys long =
     let s = put_mid 16 k (xs ++ rest) ys in
     let within : 16 ≤ length (xs ++ rest) = omega (arith, length-append xs rest) in
     sym (low_take 16 s 12 4 (omega arith)) ∙ ap (λ l. low_value l 12 4) (take-put_mid_below 16 k (xs ++ rest) ys 16 (le_refl 16) within) ∙ low_take 16 (xs ++ rest) 12 4 (omega arith)
@@ -21,9 +21,9 @@ returns-clause-read g c = λ _.
     let long' : length c.read_full-2.new.octets ≡ c.event_length-size.result = search rules in
     let first = c.in_ok-read_full.ensures in
     let second = c.in_ok-read_full-2.ensures in
-    Consumes-both _ _ _ _ _ _ _ _ _ _ _ long c.if-branch-lt-EVENT_OCTETS.false first.within long' c.if-branch-size.false second.within first.read second.read
+    consumes_both _ _ _ _ _ _ _ _ _ _ _ long c.if-branch-lt-EVENT_OCTETS.false first.within long' c.if-branch-size.false second.within first.read second.read
 
 pub returns-clause-whole : goal.returns-clause-whole
 returns-clause-whole g c = λ _.
     let long : length c.read_full.new.octets ≡ 16 = search rules in
-    ap (λ n. 16 + n) (c.event_length-size.ensures ∙ sym (length_in-behind _ _ _ _ long))
+    ap (λ n. 16 + n) (c.event_length-size.ensures ∙ sym (length_in_behind _ _ _ _ long))
