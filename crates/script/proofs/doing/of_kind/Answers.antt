@@ -1,4 +1,5 @@
 -- By the kind.
+use borrow.Author.Rules.{rules}
 use Prim.Native.Nat.{◌≤◌}
 use mathlib.Core.Option.{none}
 use native.Mathlib.Omega.{arith}
@@ -9,11 +10,11 @@ use Rattle.script.proofs.doing.of_kind.Goals as goal
 
 pub returns-in-0 : goal.returns-in-0
 unfolding kinds
-returns-in-0 c = rw c.in-0.is c.frame.ensures
+returns-in-0 c = rw c.in-0.is (search rules)
 
 pub returns-in-1 : goal.returns-in-1
 unfolding kinds
-returns-in-1 c = rw c.in-1.is c.tick.ensures
+returns-in-1 c = rw c.in-1.is (search rules)
 
 pub returns-in-2 : goal.returns-in-2
 unfolding kinds
