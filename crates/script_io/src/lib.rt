@@ -2,9 +2,10 @@
 // read and written, where the reader and the writer say which these are; what the system gives and takes no contract can say.
 #![tactic(auto)]
 
-ghost use Rattle.std.specs.Prelude.{◌≡◌, true, false, ◌+◌, ◌<◌, ◌≤◌, length, take, OnErr, IfOk};
+ghost use Rattle.std.specs.Prelude.{◌≡◌, true, false, ◌+◌, ◌<◌, ◌≤◌, length, take, OnErr, IfOk, IfSome};
 ghost use Rattle.std.specs.Io.KnownBytes.{Keeps, Consumes, Appends, IsAtEnd};
-ghost use Rattle.script.specs.Events.{event_octets, length_in};
+ghost use Rattle.script.specs.Events.{most_octets, event_octets, length_in};
+ghost use Rattle.script_io.specs.Events.{StartsWithEvent};
 
 use script::{EVENT_OCTETS, MOST_OCTETS};
 use std::io::{self, Read, Write};
@@ -23,6 +24,7 @@ pub fn read_full<R: Read>(input: &mut R, octets: &mut [u8]) -> io::Result<usize>
     ensures read { IfOk result (λ n. Consumes (R.remaining input.old) (R.remaining input.new) (take n octets.new)) }
     ensures ended { IfOk result (λ n. n < length octets.new → IsAtEnd (R.remaining input.new)) }
     ensures err { OnErr result (length octets.new ≡ length octets.old) }
+    ensures empty { length octets.old ≡ 0 → result ≡ Ok 0 }
 {
     let mut done = 0;
     while done < octets.len() {
@@ -38,9 +40,13 @@ pub fn read_full<R: Read>(input: &mut R, octets: &mut [u8]) -> io::Result<usize>
 // Reads an event, and gives how many octets it has, or 0 where the input ends early, its length is over 4,096 or the slice is too short for it.
 pub fn read_event<R: Read>(input: &mut R, event: &mut [u8]) -> io::Result<usize>
     ensures within { IfOk result (λ n. n ≤ length event.new) }
-    ensures read { IfOk result (λ n. 0 < n → Consumes (R.remaining input.old) (R.remaining input.new) (take n event.new)) }
+    ensures read { IfOk result (λ n. 0 < n
+        → Consumes (R.remaining input.old) (R.remaining input.new) (take n event.new)) }
     ensures whole { IfOk result (λ n. 0 < n → n ≡ event_octets + length_in event.new) }
+    ensures none { IfOk result (λ n. n ≡ 0 → event_octets + most_octets ≤ length event.old
+        → IfSome (R.remaining input.old) (λ s. ¬ StartsWithEvent s)) }
     ensures err { OnErr result (length event.new ≡ length event.old) }
+    ensures short { length event.old < event_octets + most_octets → result ≡ Ok 0 }
 {
     if event.len() < EVENT_OCTETS + MOST_OCTETS {
         return Ok(0);
@@ -68,7 +74,8 @@ pub fn write_reply<W: Write>(
     octets: usize,
 ) -> io::Result<bool>
     ensures fits { IfOk result (λ on. on ≡ true → (0 < octets) × (octets ≤ length out.now)) }
-    ensures written { IfOk result (λ on. on ≡ true → Appends (W.contents replies.old) (W.contents replies.new) (take octets out.now)) }
+    ensures written { IfOk result (λ on. on ≡ true
+        → Appends (W.contents replies.old) (W.contents replies.new) (take octets out.now)) }
     ensures broken { IfOk result (λ on. on ≡ false → Keeps (W.contents replies.old) (W.contents replies.new)) }
     ensures goes_on { IfOk result (λ on. 0 < octets → octets ≤ length out.now → on ≡ true) }
 {
@@ -83,7 +90,9 @@ pub fn write_reply<W: Write>(
 
 // Whether the script goes on with so many events left; with none left the input is to end.
 pub fn goes_on<R: Read>(rt: &impl Eprint, input: &mut R, left: u64) -> io::Result<bool>
-    ensures { IfOk result (λ on. (on ≡ true → 0 < left) × (on ≡ false → left ≡ 0)) }
+    ensures left { IfOk result (λ on. (on ≡ true → 0 < left) × (on ≡ false → left ≡ 0)) }
+    ensures on { 0 < left → result ≡ Ok true }
+    ensures unread { IfOk result (λ on. on ≡ true → Keeps (R.remaining input.old) (R.remaining input.new)) }
 {
     if left > 0 {
         return Ok(true);

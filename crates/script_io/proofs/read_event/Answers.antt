@@ -5,6 +5,7 @@ use Rattle.octets.specs.Octets.{low_value}
 use Rattle.octets.proofs.OctetLaws.{low_take}
 use Rattle.script.specs.Events.{length_in}
 use Rattle.script_io.proofs.Reading.{consumes_both}
+use Rattle.script_io.proofs.NoEvent.{none_too_long, none_short}
 use Rattle.script_io.proofs.read_event.Goals as goal
 use borrow.Rule.Slice.PartMut.{put_mid}
 
@@ -27,3 +28,17 @@ pub returns-clause-whole : goal.returns-clause-whole
 returns-clause-whole g c = λ _.
     let long : length c.read_full.new.octets ≡ 16 = search rules in
     ap (λ n. 16 + n) (c.event_length-size.ensures ∙ sym (length_in_behind _ _ _ _ long))
+
+pub returns-then-size-gt-MOST_OCTETS-clause-none : goal.returns-then-size-gt-MOST_OCTETS-clause-none
+returns-then-size-gt-MOST_OCTETS-clause-none g c = λ _ _.
+    let long : length c.read_full.new.octets ≡ 16 = search rules in
+    none_too_long _ _ _ _ _ _ long c.if-branch-lt-EVENT_OCTETS.false c.in_ok-read_full.ensures.read c.event_length-size.ensures c.if-size-gt-MOST_OCTETS.true
+
+pub returns-then-branch-size-clause-none : goal.returns-then-branch-size-clause-none
+returns-then-branch-size-clause-none g c = λ _ _.
+    let long : length c.read_full.new.octets ≡ 16 = search rules in
+    let long' : length c.read_full-2.new.octets ≡ c.event_length-size.result = search rules in
+    let first = c.in_ok-read_full.ensures in
+    let second = c.in_ok-read_full-2.ensures in
+    let short = c.if-branch-size.true in
+    none_short _ _ _ _ _ _ _ _ _ long c.if-branch-lt-EVENT_OCTETS.false first.read c.event_length-size.ensures long' short second.read (second.ended (omega (arith, long', short)))
