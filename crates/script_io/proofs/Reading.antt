@@ -5,6 +5,9 @@ use Rattle.std.proofs.lemmas.List.{take-append-le}
 use Rattle.std.proofs.Math.Seq.{take-append-add}
 use Rattle.std.specs.Io.KnownBytes.{Consumes}
 use Rattle.std.proofs.KnownBytes.{Consumes-trans}
+use Rattle.octets.specs.Octets.{low_value}
+use Rattle.octets.proofs.OctetLaws.{low_take}
+use Rattle.script.specs.Events.{event_octets, length_in}
 use borrow.Rule.Slice.PartMut.{put_mid, post_of}
 
 -- the first octets of xs, and n octets of the part behind them, which was ys
@@ -29,3 +32,8 @@ consumes_both x y z a b k m n xs rest ys long most within long' most' within' be
     let first = subst (Consumes x y) (ap (λ j. take j xs) same ∙ sym (take-append-le a xs rest (omega arith))) before in
     let second = subst (λ j. Consumes y z (take j ys)) same' read in
     consumes_part x y z a k b (xs ++ rest) ys (omega (arith, length-append xs rest)) (omega arith) first second
+
+-- an event's first octets tell its length
+pub same_length_in : (s t : List ℕ) → take event_octets s ≡ take event_octets t → length_in s ≡ length_in t
+same_length_in s t same =
+    sym (low_take event_octets s 12 4 (omega arith)) ∙ ap (λ l. low_value l 12 4) same ∙ low_take event_octets t 12 4 (omega arith)

@@ -1,24 +1,21 @@
 -- Both reads were full, and the second leaves the octets of the first.
 use Rattle.std.proofs.Common.{rules, arith, ◌≡◌, ◌+◌, ℕ, List, ◌≤◌, ◌++◌, length, sym, ap, ◌∙◌, le_refl, length-append}
 use Rattle.std.proofs.lemmas.Slice.{take-put_mid_below}
-use Rattle.octets.specs.Octets.{low_value}
-use Rattle.octets.proofs.OctetLaws.{low_take}
-use Rattle.script.specs.Events.{length_in}
-use Rattle.script_io.proofs.Reading.{consumes_both}
+use Rattle.script.specs.Events.{event_octets, length_in}
+use Rattle.script_io.proofs.Reading.{consumes_both, same_length_in}
 use Rattle.script_io.proofs.NoEvent.{none_too_long, none_short}
 use Rattle.script_io.proofs.read_event.Goals as goal
 use borrow.Rule.Slice.PartMut.{put_mid}
 
 -- the length stands in front of what is read behind the first octets
-length_in_behind : (k : ℕ) (xs rest ys : List ℕ) → length xs ≡ 16 → length_in (put_mid 16 k (xs ++ rest) ys) ≡ length_in (xs ++ rest)
+length_in_behind : (k : ℕ) (xs rest ys : List ℕ) → length xs ≡ event_octets → length_in (put_mid event_octets k (xs ++ rest) ys) ≡ length_in (xs ++ rest)
 length_in_behind k xs rest ys long =
-    let s = put_mid 16 k (xs ++ rest) ys in
-    let within : 16 ≤ length (xs ++ rest) = omega (arith, length-append xs rest) in
-    sym (low_take 16 s 12 4 (omega arith)) ∙ ap (λ l. low_value l 12 4) (take-put_mid_below 16 k (xs ++ rest) ys 16 (le_refl 16) within) ∙ low_take 16 (xs ++ rest) 12 4 (omega arith)
+    let within : event_octets ≤ length (xs ++ rest) = omega (arith, length-append xs rest) in
+    same_length_in (put_mid event_octets k (xs ++ rest) ys) (xs ++ rest) (take-put_mid_below event_octets k (xs ++ rest) ys event_octets (le_refl event_octets) within)
 
 pub returns-clause-read : goal.returns-clause-read
 returns-clause-read g c = λ _.
-    let long : length c.read_full.new.octets ≡ 16 = search rules in
+    let long : length c.read_full.new.octets ≡ event_octets = search rules in
     let long' : length c.read_full-2.new.octets ≡ c.event_length-size.result = search rules in
     let first = c.in_ok-read_full.ensures in
     let second = c.in_ok-read_full-2.ensures in
@@ -26,17 +23,17 @@ returns-clause-read g c = λ _.
 
 pub returns-clause-whole : goal.returns-clause-whole
 returns-clause-whole g c = λ _.
-    let long : length c.read_full.new.octets ≡ 16 = search rules in
-    ap (λ n. 16 + n) (c.event_length-size.ensures ∙ sym (length_in_behind _ _ _ _ long))
+    let long : length c.read_full.new.octets ≡ event_octets = search rules in
+    ap (λ n. event_octets + n) (c.event_length-size.ensures ∙ sym (length_in_behind _ _ _ _ long))
 
 pub returns-then-size-gt-MOST_OCTETS-clause-none : goal.returns-then-size-gt-MOST_OCTETS-clause-none
 returns-then-size-gt-MOST_OCTETS-clause-none g c = λ _ _.
-    let long : length c.read_full.new.octets ≡ 16 = search rules in
+    let long : length c.read_full.new.octets ≡ event_octets = search rules in
     none_too_long _ _ _ _ _ _ long c.if-branch-lt-EVENT_OCTETS.false c.in_ok-read_full.ensures.read c.event_length-size.ensures c.if-size-gt-MOST_OCTETS.true
 
 pub returns-then-branch-size-clause-none : goal.returns-then-branch-size-clause-none
 returns-then-branch-size-clause-none g c = λ _ _.
-    let long : length c.read_full.new.octets ≡ 16 = search rules in
+    let long : length c.read_full.new.octets ≡ event_octets = search rules in
     let long' : length c.read_full-2.new.octets ≡ c.event_length-size.result = search rules in
     let first = c.in_ok-read_full.ensures in
     let second = c.in_ok-read_full-2.ensures in
