@@ -15,14 +15,13 @@ use Rattle.messages.specs.Table.{head, Kind}
 use Rattle.messages.specs.Reading as messages
 use Rattle.messages.specs.Reading.{Checked, no, Form, of_type, kinds, typed, kind_rules, frame_rules}
 use Rattle.messages.proofs.CheckLaws.{pass}
-use Rattle.messages.proofs.Distinct.{numbers_differ}
+use Rattle.messages.proofs.Distinct.{numbers_differ, written_differ}
 use Rattle.amplitude.specs.Reading.{Summary, requested, confirmed}
 use Rattle.amplitude.specs.Answers.{result_of}
 use Rattle.amplitude.specs.Claims.{NoOther, AnswersDiffer, FilledDiffer}
-use Rattle.amplitude.specs.declared.ReadAnswer.{ReadAnswer}
-use Rattle.amplitude.specs.declared.ReadAnswer.TheVariants.{AmpMapReq, AmpMapCnf}
-use Rattle.amplitude.specs.declared.ReadAnswer.TheVariants as read_answer
-use Rattle.amplitude.specs.declared.Filled.TheVariants as filled
+use Rattle.std.specs.Prelude.{Ok, Err}
+use Rattle.amplitude.specs.declared.MapMessage.{MapMessage}
+use Rattle.amplitude.specs.declared.MapMessage.TheVariants.{AmpMapReq, AmpMapCnf}
 use Rattle.amplitude.proofs.AcceptedLaws.{Headed, IsReq, IsCnf, accepted}
 
 -- ---- types
@@ -45,7 +44,7 @@ no_other e s m w = ⊎_elim
 -- ---- answers
 
 -- the value of the code that a summary means
-abbrev answer_in : Summary → ReadAnswer
+abbrev answer_in : Summary → MapMessage
 answer_in (requested d f n) = AmpMapReq (record { 0 = d }) (record { 0 = f }) n
 answer_in (confirmed d f x) = AmpMapCnf (record { 0 = d }) (record { 0 = f }) (eqb x 0)
 
@@ -54,22 +53,19 @@ result_back true = refl
 result_back false = refl
 
 pub answers_differ : AnswersDiffer
-answers_differ (AmpMapReq d f n) (AmpMapReq d' f' n') e =
+answers_differ (Ok (AmpMapReq d f n)) (Ok (AmpMapReq d' f' n')) e =
     let same : requested d.0 f.0 n ≡ requested d'.0 f'.0 n' = cc in
-    ap answer_in same
-answers_differ (AmpMapReq d f n) (AmpMapCnf d' f' b) e = absurd (let z : ◌≡◌ {A = ℕ} 0 1 = cc in omega arith)
-answers_differ (AmpMapReq d f n) (read_answer.Refused y) e = absurd (let z : ◌≡◌ {A = ℕ} 0 1 = cc in omega arith)
-answers_differ (AmpMapCnf d f a) (AmpMapReq d' f' n') e = absurd (let z : ◌≡◌ {A = ℕ} 0 1 = cc in omega arith)
-answers_differ (AmpMapCnf d f a) (AmpMapCnf d' f' b) e =
+    ap (λ (x : Summary). Ok (answer_in x)) same
+answers_differ (Ok (AmpMapReq d f n)) (Ok (AmpMapCnf d' f' b)) e = absurd (let z : ◌≡◌ {A = ℕ} 0 1 = cc in omega arith)
+answers_differ (Ok (AmpMapReq d f n)) (Err y) e = absurd (let z : ◌≡◌ {A = ℕ} 0 1 = cc in omega arith)
+answers_differ (Ok (AmpMapCnf d f a)) (Ok (AmpMapReq d' f' n')) e = absurd (let z : ◌≡◌ {A = ℕ} 0 1 = cc in omega arith)
+answers_differ (Ok (AmpMapCnf d f a)) (Ok (AmpMapCnf d' f' b)) e =
     let same : confirmed d.0 f.0 (result_of a) ≡ confirmed d'.0 f'.0 (result_of b) = cc in
-    ap (AmpMapCnf d f) (sym (result_back a)) ∙ ap answer_in same ∙ ap (AmpMapCnf d' f') (result_back b)
-answers_differ (AmpMapCnf d f a) (read_answer.Refused y) e = absurd (let z : ◌≡◌ {A = ℕ} 0 1 = cc in omega arith)
-answers_differ (read_answer.Refused x) (AmpMapReq d f n) e = absurd (let z : ◌≡◌ {A = ℕ} 0 1 = cc in omega arith)
-answers_differ (read_answer.Refused x) (AmpMapCnf d f b) e = absurd (let z : ◌≡◌ {A = ℕ} 0 1 = cc in omega arith)
-answers_differ (read_answer.Refused x) (read_answer.Refused y) e = ap read_answer.Refused (numbers_differ x y (cc))
+    ap (Ok) (ap (AmpMapCnf d f) (sym (result_back a)) ∙ ap answer_in same ∙ ap (AmpMapCnf d' f') (result_back b))
+answers_differ (Ok (AmpMapCnf d f a)) (Err y) e = absurd (let z : ◌≡◌ {A = ℕ} 0 1 = cc in omega arith)
+answers_differ (Err x) (Ok (AmpMapReq d f n)) e = absurd (let z : ◌≡◌ {A = ℕ} 0 1 = cc in omega arith)
+answers_differ (Err x) (Ok (AmpMapCnf d f b)) e = absurd (let z : ◌≡◌ {A = ℕ} 0 1 = cc in omega arith)
+answers_differ (Err x) (Err y) e = ap (Err) (numbers_differ x y (cc))
 
 pub filled_differ : FilledDiffer
-filled_differ (filled.Carriers m) (filled.Carriers n) e = ap filled.Carriers (cc)
-filled_differ (filled.Carriers m) (filled.Refused y) e = absurd (let z : ◌≡◌ {A = ℕ} 0 1 = cc in omega arith)
-filled_differ (filled.Refused x) (filled.Carriers n) e = absurd (let z : ◌≡◌ {A = ℕ} 0 1 = cc in omega arith)
-filled_differ (filled.Refused x) (filled.Refused y) e = ap filled.Refused (numbers_differ x y (cc))
+filled_differ = written_differ

@@ -1,77 +1,23 @@
 -- Laws of our levels: a signed number is turned once, here, into how far it lies below 0.
-use Prim.Native.Nat.{ℕ, zero, suc, ◌+◌, ◌*◌, ◌-◌, ◌^◌, ◌<◌, ◌≤◌}
-use mathlib.Core.Path.{◌≡◌, refl, sym, ap, ◌∙◌, subst}
+use Prim.Native.Nat.{ℕ, zero, suc, ◌+◌, ◌*◌, ◌-◌, ◌^◌, ◌<◌}
+use mathlib.Core.Path.{◌≡◌, refl, sym, ap, ap₂, ◌∙◌}
 use mathlib.Core.Bool.{Bool, true, false, cond, false≢true}
 use mathlib.Core.List.{List, [], ◌∷◌}
 use native.Mathlib.Omega.{arith}
-use borrow.Author.Tests.{ltb-true, ltb-false}
-use lib.Dec.{T, leb, ltb}
-use lib.IntN.{ℤ, pos, negsuc, nat_abs, sub_ℕ, ◌+ℤ◌, ◌-ℤ◌, neg_ℤ-neg_ℤ}
+use borrow.Author.Tests.{ltb-true}
+use lib.Dec.{ltb}
+use lib.IntN.{ℤ, pos, negsuc, nat_abs, sub_ℕ, ◌+ℤ◌, neg_ℤ-neg_ℤ}
 use lib.ListN.{length, get_or}
-use lib.Signed.{mag, lt_z, non_neg}
-use mir.Syntax.{w16, w32}
-use mir.Val.{Fits, SFits, to_z, of_z}
+use lib.Signed.{mag}
+use mir.Syntax.{w16}
+use mir.Val.{to_z, of_z}
 use mir.Facts.{to_z-of_z}
 use Rattle.amplitude.specs.Reductions.{positive, reduction, reductions, is_level, are_levels}
-use Rattle.amplitude.specs.Private.{depth_of}
 use Rattle.amplitude.proofs.RunLaws.{every_at}
 
 -- a signed number as its bits, read back
 abbrev bits16 : ℤ → ℤ
 bits16 z = to_z w16 (of_z w16 z)
-
-abbrev bits32 : ℤ → ℤ
-bits32 z = to_z w32 (of_z w32 z)
-
--- ---- how far a level lies below 0
-
--- 0 less a level that is not above it
-negated : (z : ℤ) → lt_z (pos 0) z ≡ false → (pos 0 -ℤ z) ≡ pos (depth_of z)
-negated (pos zero) h = refl
-negated (pos (suc n)) h = absurd (omega (arith, ltb-false 0 (suc n) h))
-negated (negsuc n) h = let e : 0 + suc n ≡ suc n = omega arith in ap pos e
-
-depth_le : (z : ℤ) → lt_z (pos 0) z ≡ false → depth_of z ≤ suc (mag z)
-depth_le (pos zero) h = omega arith
-depth_le (pos (suc n)) h = absurd (omega (arith, ltb-false 0 (suc n) h))
-depth_le (negsuc n) h = omega arith
-
-module _ (z : ℤ) (f : SFits w16 z) where
-  plain : bits16 z ≡ z
-  plain = to_z-of_z f
-
-  pub wide_fits : SFits w32 (bits16 z)
-  wide_fits = rw plain (record { sfits = let m : mag z < 2 ^ 15 = f.sfits in omega arith })
-
-  pub above : lt_z (pos 0) (bits16 z) ≡ true → 255 ≡ depth_of z
-  above h = go z (subst (λ (x : ℤ). lt_z (pos 0) x ≡ true) plain h)
-    where
-      go : (x : ℤ) → lt_z (pos 0) x ≡ true → 255 ≡ depth_of x
-      go (pos zero) e = absurd (false≢true e)
-      go (pos (suc n)) e = refl
-      go (negsuc n) e = absurd (false≢true e)
-
-  module _ (h : lt_z (pos 0) (bits16 z) ≡ false) where
-    under : lt_z (pos 0) z ≡ false
-    under = subst (λ (x : ℤ). lt_z (pos 0) x ≡ false) plain h
-
-    small : depth_of z ≤ 2 ^ 15
-    small = let m : mag z < 2 ^ 15 = f.sfits in omega (arith, depth_le z under)
-
-    less : (pos 0 -ℤ bits32 (bits16 z)) ≡ pos (depth_of z)
-    less = ap (λ (x : ℤ). pos 0 -ℤ x) (to_z-of_z wide_fits ∙ plain) ∙ negated z under
-
-    pub less_fits : SFits w32 (pos 0 -ℤ bits32 (bits16 z))
-    less_fits = subst (SFits w32) (sym less) (record { sfits = omega (arith, small) })
-
-    got : bits32 (pos 0 -ℤ bits32 (bits16 z)) ≡ pos (depth_of z)
-    got = to_z-of_z less_fits ∙ less
-
-    pub narrow : T (non_neg (bits32 (pos 0 -ℤ bits32 (bits16 z)))) × Fits w16 (nat_abs (bits32 (pos 0 -ℤ bits32 (bits16 z))))
-    narrow = subst (λ (x : ℤ). T (non_neg x) × Fits w16 (nat_abs x)) (sym got) (tt, record { fits = omega (arith, small) })
-
-    pub below : nat_abs (bits32 (pos 0 -ℤ bits32 (bits16 z))) ≡ depth_of z
-    below = ap nat_abs got
 
 -- a level that is handed to a function arrives as it was
 arrives : (z : ℤ) → mag z < 2 ^ 15 → bits16 z ≡ z
@@ -79,13 +25,8 @@ arrives z h = to_z-of_z {w = w16} (record { sfits = h })
 
 -- ---- its range and its reduction, by how far it lies below 0
 
-level_depth : (z : ℤ) → leb (depth_of z) 128 ≡ is_level z
-level_depth (pos zero) = refl
-level_depth (pos (suc n)) = refl
-level_depth (negsuc n) = refl
-
-pub level_tested : (z : ℤ) (d : ℕ) → mag z < 2 ^ 15 → d ≡ depth_of (bits16 z) → leb d 128 ≡ is_level z
-level_tested z d f e = ap (λ (k : ℕ). leb k 128) (e ∙ ap depth_of (arrives z f)) ∙ level_depth z
+pub level_tested : (z : ℤ) (b : Bool) → mag z < 2 ^ 15 → b ≡ is_level (bits16 z) → b ≡ is_level z
+level_tested z b f e = e ∙ ap is_level (arrives z f)
 
 -- n less m where it is positive
 positive_sub : (n m : ℕ) → positive (sub_ℕ n m) ≡ n - m
@@ -95,22 +36,20 @@ positive_sub n m = go (ltb n m) refl
     go true e = let h : n < m = ltb-true n m e in omega arith
     go false e = refl
 
-reduction_depth : (a : ℕ) (z : ℤ) → is_level z ≡ true → reduction a z ≡ (50 + 2 * a) - depth_of z
+reduction_depth : (a : ℕ) (z : ℤ) → is_level z ≡ true → reduction a z ≡ (50 + 2 * a) - nat_abs z
 unfolding reduction
 reduction_depth a z h = ap (λ (x : ℤ). positive (z +ℤ x)) (neg_ℤ-neg_ℤ (pos (50 + 2 * a))) ∙ go z h
   where
-    go : (x : ℤ) → is_level x ≡ true → positive (x +ℤ pos (50 + 2 * a)) ≡ (50 + 2 * a) - depth_of x
+    go : (x : ℤ) → is_level x ≡ true → positive (x +ℤ pos (50 + 2 * a)) ≡ (50 + 2 * a) - nat_abs x
     go (pos zero) e = omega arith
     go (pos (suc n)) e = absurd (false≢true e)
     go (negsuc n) e = positive_sub (50 + 2 * a) (suc n)
 
--- a level d below 0, where it lies above the limit and where it does not
-module _ (a : ℕ) (z : ℤ) (d : ℕ) (f : mag z < 2 ^ 15) (h : is_level z ≡ true) (e : d ≡ depth_of (bits16 z)) where
-  pub lowered_by : (50 + 2 * a) - d ≡ reduction a z
-  lowered_by = sym (reduction_depth a z h ∙ ap (λ (x : ℕ). (50 + 2 * a) - x) (sym (e ∙ ap depth_of (arrives z f))))
-
-  pub lowered_not : 50 + 2 * a ≤ d → 0 ≡ reduction a z
-  lowered_not l = omega (arith, lowered_by)
+-- a level d below 0 and a value that arrives as v
+pub lowered_by : (a : ℕ) (z : ℤ) (d v : ℕ) → mag z < 2 ^ 15 → is_level z ≡ true → d ≡ nat_abs (bits16 z) → v ≡ a → (50 + 2 * v) - d ≡ reduction a z
+lowered_by a z d v f h e k =
+    let g : d ≡ nat_abs z = e ∙ ap nat_abs (arrives z f) in
+    ap₂ (λ (x y : ℕ). (50 + 2 * x) - y) k g ∙ sym (reduction_depth a z h)
 
 -- ---- runs of levels
 

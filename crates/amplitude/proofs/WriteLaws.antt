@@ -1,10 +1,10 @@
 -- Laws of the rules of writing, for the writers' proofs.
-use Prim.Native.Nat.{ℕ, ◌+◌, ◌-◌, ◌≤◌, ◌<◌}
+use Prim.Native.Nat.{ℕ, ◌+◌, ◌-◌, ◌≤◌}
 use mathlib.Core.Path.{◌≡◌, refl, sym, ap, ap₂, ◌∙◌}
 use mathlib.Core.Bool.{Bool, true, false}
 use mathlib.Core.List.{List, [], ◌∷◌, ◌++◌}
 use native.Mathlib.Omega.{arith}
-use borrow.Author.Tests.{le-leb, lt-leb, leb-true}
+use borrow.Author.Tests.{le-leb, leb-true}
 use lib.Dec.{leb, ltb}
 use lib.ListN.{length, length-append, length-replicate}
 use lib.Seq.{sets}
@@ -15,7 +15,7 @@ use Rattle.messages.specs.Reading.{no, yes, check}
 use Rattle.messages.specs.Writing.{length_of}
 use Rattle.octets.proofs.OctetLaws.{bytes_zero, length_low, sets_append}
 use Rattle.messages.proofs.LayoutLaws.{and_left, and_right, length_encode}
-use Rattle.messages.proofs.CheckLaws.{pass, fail, passed}
+use Rattle.messages.proofs.CheckLaws.{pass, passed}
 use Rattle.amplitude.specs.Halves.{packed, octets_for, are_halves}
 use Rattle.amplitude.specs.Maps.{MapMessage, amp_map_req, amp_map_cnf, type_of, destination, source, carrier_limit, is_carriers, count_size, req_size, cnf_size, payload_size, filled, result_limit, is_map, is_limited, is_addressed, payload}
 use Rattle.amplitude.specs.Writing.{head_octets, padding, length_in, frame, write_rules}
@@ -105,21 +105,6 @@ result_limited true = refl
 result_limited false = refl
 
 -- ---- what writing answers
-
-module _ (a b : Bool) (w n : ℕ) where
-  pub judged_unaddressed : a ≡ false → no 5 ≡ judged a b w n
-  judged_unaddressed p = sym (fail a 5 _ p)
-
-  module _ (p : a ≡ true) where
-    pub judged_unlimited : b ≡ false → no 6 ≡ judged a b w n
-    judged_unlimited q = sym (pass a 5 _ p ∙ fail b 6 _ q)
-
-    module _ (q : b ≡ true) where
-      pub judged_short : n < w → no 15 ≡ judged a b w n
-      judged_short h = sym (pass a 5 _ p ∙ pass b 6 _ q ∙ fail (leb w n) 15 _ (lt-leb w n h))
-
-      pub judged_right : w ≤ n → yes w ≡ judged a b w n
-      judged_right h = sym (pass a 5 _ p ∙ pass b 6 _ q ∙ pass (leb w n) 15 _ (le-leb w n h))
 
 -- writing passes its tests
 pub record Right (a b : Bool) (w n k : ℕ) : Type 0 where

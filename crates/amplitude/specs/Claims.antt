@@ -1,5 +1,5 @@
 -- What is proved of the definitions: the two round trips, that answers and messages are told apart, and that cars are unicast.
-use Rattle.std.specs.Prelude.{ℕ, ◌≡◌, true, List, ◌++◌, leb, take}
+use Rattle.std.specs.Prelude.{ℕ, ◌≡◌, true, List, ◌++◌, leb, take, Result}
 use Rattle.std.proofs.Math.Option.{some}
 use Rattle.octets.specs.Octets.{Octets}
 use Rattle.messages.specs.declared.CarAddress.{CarAddress}
@@ -10,9 +10,10 @@ use Rattle.messages.specs.Reading.{no, yes, check}
 use Rattle.amplitude.specs.Maps.{MapMessage, payload_size, filled}
 use Rattle.amplitude.specs.Reading.{read_rules, car_of}
 use Rattle.amplitude.specs.Writing.{padding, length_in, write_rules}
-use Rattle.amplitude.specs.Answers.{answer_of, filled_of}
-use Rattle.amplitude.specs.declared.ReadAnswer.{ReadAnswer}
-use Rattle.amplitude.specs.declared.Filled.{Filled}
+use Rattle.messages.specs.Answers.{checked_of}
+use Rattle.amplitude.specs.Answers.{answer_of}
+use Rattle.messages.specs.declared.Refusal.{Refusal}
+use Rattle.amplitude.specs.declared.MapMessage as code
 
 -- reading what was written gives the message, for every message that writing accepts
 abbrev pub ReadsWritten : Type 0
@@ -30,10 +31,10 @@ NoOther = (e : Edition) (s : List ℕ) (m : MapMessage) → read_rules s ≡ yes
 
 -- each answer has a meaning of its own
 abbrev pub AnswersDiffer : Type 0
-AnswersDiffer = (a b : ReadAnswer) → answer_of a ≡ answer_of b → a ≡ b
+AnswersDiffer = (a b : Result code.MapMessage Refusal) → answer_of a ≡ answer_of b → a ≡ b
 
 abbrev pub FilledDiffer : Type 0
-FilledDiffer = (a b : Filled) → filled_of a ≡ filled_of b → a ≡ b
+FilledDiffer = (a b : Result ℕ Refusal) → checked_of a ≡ checked_of b → a ≡ b
 
 -- a car that a frame names has a unicast address
 abbrev pub CarsUnicast : Type 0

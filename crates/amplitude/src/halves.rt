@@ -14,7 +14,7 @@ const VALUE_LIMIT: u8 = 16;
 pub(crate) fn octets_for(n: usize) -> usize
     ensures { result ≡ octets_for n }
 {
-    n / 2 + n % 2
+    n.div_ceil(2)
 }
 
 // Whether each value fits a half-octet.
@@ -22,10 +22,8 @@ fn are_halves(values: &[u8]) -> bool
     ensures { result ≡ are_halves values.now }
 {
     let mut right = true;
-    let mut i: usize = 0;
-    while i < values.len() {
-        right = right & (values[i] < VALUE_LIMIT);
-        i += 1;
+    for &value in values {
+        right &= value < VALUE_LIMIT;
     }
     right
 }
@@ -50,14 +48,12 @@ pub(crate) fn unpack(s: &[u8], n: usize, out: &mut [u8])
     requires { (n ≤ 2 * length s.now) × (n ≤ length out.old) }
     ensures { out.new ≡ sets out.old 0 (take n (halves s.now)) }
 {
-    let mut i: usize = 0;
-    while i < n {
+    for i in 0..n {
         out[i] = half_at(s, i);
-        i += 1;
     }
 }
 
-// The octet k of the values of a map.
+// The octet k of the values of a map. `are_halves` is asked for here and where maps are written: a slice is lent, and a type would be made of it in each call.
 fn pair_at(values: &[u8], k: usize) -> u8
     requires { (are_halves values.now ≡ true) × (k < octets_for (length values.now)) }
     ensures { result ≡ get_or (packed values.now) k 0 }
@@ -70,10 +66,7 @@ pub(crate) fn pack(values: &[u8], out: &mut [u8], at: usize)
     requires { (are_halves values.now ≡ true) × (at + octets_for (length values.now) ≤ length out.old) }
     ensures { out.new ≡ sets out.old at (packed values.now) }
 {
-    let n = octets_for(values.len());
-    let mut i: usize = 0;
-    while i < n {
+    for i in 0..octets_for(values.len()) {
         out[at + i] = pair_at(values, i);
-        i += 1;
     }
 }

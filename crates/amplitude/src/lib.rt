@@ -9,27 +9,24 @@ mod writer;
 ghost use Rattle.std.specs.Prelude.{◌≡◌, length};
 ghost use Rattle.octets.specs.Octets.{splice};
 ghost use Rattle.messages.specs.Writing.{length_of, octets_of};
-ghost use Rattle.messages.specs.Answers.{written_of};
+ghost use Rattle.messages.specs.Answers.{checked_of};
 ghost use Rattle.amplitude.specs.Maps.{amp_map_req, amp_map_cnf, is_carriers};
 ghost use Rattle.amplitude.specs.Reading.{read_rules, summary_of, values_rules};
 ghost use Rattle.amplitude.specs.Writing.{write_rules};
 ghost use Rattle.amplitude.specs.Reductions.{reduce_rules};
-ghost use Rattle.amplitude.specs.Answers.{result_of, answer_of, filled_of};
+ghost use Rattle.amplitude.specs.Answers.{result_of, answer_of};
 
-use messages::heads::{LEAST, TypeAnswer, padded_size, type_in};
-use messages::{Refusal, Written};
+use messages::heads::{LEAST, padded_size, type_in};
+use messages::{Receiver, Refusal};
+use reader::Addresses;
 
-// Whom a frame goes to: its destination as a number, first octet most significant.
-#[derive(Clone, Copy)]
-pub struct Receiver(pub u64);
-
-// Who sends it: its source.
-#[derive(Clone, Copy)]
+// Who sends a frame: its source as a number, first octet most significant.
+#[derive(Clone, Copy, PartialEq, Eq)]
 pub struct Sender(pub u64);
 
-// What reading gives: CM_AMP_MAP.REQ without its values, or CM_AMP_MAP.CNF.
+// CM_AMP_MAP.REQ without its values, or CM_AMP_MAP.CNF.
 #[derive(Clone, Copy)]
-pub enum ReadAnswer {
+pub enum MapMessage {
     AmpMapReq {
         receiver: Receiver,
         sender: Sender,
@@ -40,14 +37,6 @@ pub enum ReadAnswer {
         sender: Sender,
         success: bool,
     },
-    Refused(Refusal),
-}
-
-// How many places of a slice were filled, one for each carrier.
-#[derive(Clone, Copy)]
-pub enum Filled {
-    Carriers(usize),
-    Refused(Refusal),
 }
 
 // The most carriers.
@@ -57,105 +46,87 @@ pub const CARRIER_LIMIT: usize = 1155;
 pub fn is_carriers(n: usize) -> bool
     ensures { result ≡ is_carriers n }
 {
-    (1 <= n) & (n <= CARRIER_LIMIT)
+    1 <= n && n <= CARRIER_LIMIT
 }
 
 // Reads a frame: any octets, of any length.
-pub fn read(frame: &[u8]) -> ReadAnswer
+#[tactic(auto, using(crate::proofs::ReadLaws::reads_typed, crate::proofs::ReadLaws::reads_refused))]
+pub fn read(frame: &[u8]) -> Result<MapMessage, Refusal>
     ensures { answer_of result ≡ summary_of (read_rules frame.now) }
 {
-    let found = type_in(frame);
-    match found {
-        TypeAnswer::Type(number) => reader::by_type(frame, number),
-        TypeAnswer::Refused(refusal) => ReadAnswer::Refused(refusal),
-    }
+    reader::by_type(frame, type_in(frame)?)
 }
 
-// Puts the values of a request, one for each carrier, into a slice from its first place; a refusal changes nothing.
-pub fn values(frame: &[u8], out: &mut [u8]) -> Filled
-    ensures result_value { filled_of result ≡ length_of (values_rules frame.now (length out.old)) }
+// Puts the values of a request, one for each carrier, into a slice from its first place, and gives how many; a refusal changes nothing.
+pub fn values(frame: &[u8], out: &mut [u8]) -> Result<usize, Refusal>
+    ensures result_value { checked_of result ≡ length_of (values_rules frame.now (length out.old)) }
     ensures out_after { out.new ≡ splice 0 (octets_of (values_rules frame.now (length out.old))) out.old }
 {
-    let answer = read(frame);
-    match answer {
-        ReadAnswer::AmpMapReq {
-            receiver: _,
-            sender: _,
-            carriers,
-        } => {
-            if carriers <= out.len() {
-                let end = reader::MAP + halves::octets_for(carriers);
-                halves::unpack(&frame[reader::MAP..end], carriers, out);
-                Filled::Carriers(carriers)
-            } else {
-                Filled::Refused(Refusal::OutputTooShort)
-            }
-        }
-        ReadAnswer::AmpMapCnf {
-            receiver: _,
-            sender: _,
-            success: _,
-        } => Filled::Refused(Refusal::UnknownType),
-        ReadAnswer::Refused(refusal) => Filled::Refused(refusal),
+    let MapMessage::AmpMapReq { carriers, .. } = read(frame)? else {
+        return Err(Refusal::UnknownType);
+    };
+    if out.len() < carriers {
+        return Err(Refusal::OutputTooShort);
     }
+    let end = reader::MAP + halves::octets_for(carriers);
+    halves::unpack(&frame[reader::MAP..end], carriers, out);
+    Ok(carriers)
 }
 
-// Writes the frame of CM_AMP_MAP.REQ, with a value for each carrier, from the first octet of an output; a refusal changes nothing.
-pub fn write_req(receiver: Receiver, sender: Sender, values: &[u8], out: &mut [u8]) -> Written
-    ensures result_value { written_of result ≡ length_of (write_rules (amp_map_req receiver.0 sender.0 values.now) (length out.old)) }
+// Writes the frame of CM_AMP_MAP.REQ, with a value for each carrier, from the first octet of an output, and gives its length; a refusal changes nothing.
+pub fn write_req(
+    receiver: Receiver,
+    sender: Sender,
+    values: &[u8],
+    out: &mut [u8],
+) -> Result<usize, Refusal>
+    ensures result_value { checked_of result ≡ length_of (write_rules (amp_map_req receiver.0 sender.0 values.now) (length out.old)) }
     ensures out_after { out.new ≡ splice 0 (octets_of (write_rules (amp_map_req receiver.0 sender.0 values.now) (length out.old))) out.old }
 {
-    let addressed = reader::is_addressed(receiver, sender);
+    let addresses = Addresses { receiver, sender };
+    let addressed = addresses.are_unicast();
     let limited = halves::is_map(values);
     let whole = padded_size(reader::MAP + halves::octets_for(values.len()));
-    let answer = writer::judge(addressed, limited, whole, out.len());
-    match answer {
-        Written::Octets(octets) => {
-            writer::put_req(receiver, sender, values, whole, out);
-            Written::Octets(octets)
-        }
-        Written::Refused(refusal) => Written::Refused(refusal),
-    }
+    let octets = writer::judge(addressed, limited, whole, out.len())?;
+    writer::put_req(addresses, values, whole, out);
+    Ok(octets)
 }
 
-// Writes the frame of CM_AMP_MAP.CNF; a refusal changes nothing.
-pub fn write_cnf(receiver: Receiver, sender: Sender, success: bool, out: &mut [u8]) -> Written
-    ensures result_value { written_of result ≡ length_of (write_rules (amp_map_cnf receiver.0 sender.0 (result_of success)) (length out.old)) }
+// Writes the frame of CM_AMP_MAP.CNF, and gives its length; a refusal changes nothing.
+pub fn write_cnf(
+    receiver: Receiver,
+    sender: Sender,
+    success: bool,
+    out: &mut [u8],
+) -> Result<usize, Refusal>
+    ensures result_value { checked_of result ≡ length_of (write_rules (amp_map_cnf receiver.0 sender.0 (result_of success)) (length out.old)) }
     ensures out_after { out.new ≡ splice 0 (octets_of (write_rules (amp_map_cnf receiver.0 sender.0 (result_of success)) (length out.old))) out.old }
 {
-    let addressed = reader::is_addressed(receiver, sender);
-    let answer = writer::judge(addressed, true, LEAST, out.len());
-    match answer {
-        Written::Octets(octets) => {
-            writer::put_cnf(receiver, sender, success, out);
-            Written::Octets(octets)
-        }
-        Written::Refused(refusal) => Written::Refused(refusal),
-    }
+    let addresses = Addresses { receiver, sender };
+    let addressed = addresses.are_unicast();
+    let octets = writer::judge(addressed, true, LEAST, out.len())?;
+    writer::put_cnf(addresses, success, out);
+    Ok(octets)
 }
 
-// Puts the reduction of each carrier, for a request's values and our levels in dBm/Hz, into a slice from its first place; a refusal changes nothing.
-pub fn reduce(values: &[u8], levels: &[i16], out: &mut [u8]) -> Filled
-    ensures result_value { filled_of result ≡ length_of (reduce_rules values.now levels.now (length out.old)) }
+// Puts the reduction of each carrier, for a request's values and our levels in dBm/Hz, into a slice from its first place, and gives how many; a refusal changes nothing.
+pub fn reduce(values: &[u8], levels: &[i16], out: &mut [u8]) -> Result<usize, Refusal>
+    ensures result_value { checked_of result ≡ length_of (reduce_rules values.now levels.now (length out.old)) }
     ensures out_after { out.new ≡ splice 0 (octets_of (reduce_rules values.now levels.now (length out.old))) out.old }
 {
     let n = values.len();
-    if halves::is_map(values) {
-        if n == levels.len() {
-            if levels::are_levels(levels) {
-                if n <= out.len() {
-                    levels::put_reductions(values, levels, out);
-                    Filled::Carriers(n)
-                } else {
-                    Filled::Refused(Refusal::OutputTooShort)
-                }
-            } else {
-                Filled::Refused(Refusal::BadConfiguration)
-            }
-        } else {
-            Filled::Refused(Refusal::OtherCarrierCount)
-        }
-    } else {
-        Filled::Refused(Refusal::BadOctet)
+    if !halves::is_map(values) {
+        return Err(Refusal::BadOctet);
     }
+    if n != levels.len() {
+        return Err(Refusal::OtherCarrierCount);
+    }
+    if !levels::are_levels(levels) {
+        return Err(Refusal::BadConfiguration);
+    }
+    if out.len() < n {
+        return Err(Refusal::OutputTooShort);
+    }
+    levels::put_reductions(values, levels, out);
+    Ok(n)
 }

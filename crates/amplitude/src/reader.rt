@@ -7,9 +7,9 @@ ghost use Rattle.amplitude.specs.Answers.{answer_of};
 ghost use Rattle.amplitude.specs.Private.{addresses_of};
 
 use crate::halves::{half_at, octets_for};
-use crate::{ReadAnswer, Receiver, Sender, is_carriers};
+use crate::{MapMessage, Sender, is_carriers};
 use messages::heads::{HEAD, padded_size};
-use messages::{Refusal, is_unicast};
+use messages::{Receiver, Refusal, is_unicast};
 use octets::{low_number_at, number_at};
 
 // The types of both messages.
@@ -23,110 +23,96 @@ pub(crate) const MAP: usize = 21;
 // The first number that is no result.
 const RESULT_LIMIT: u64 = 2;
 
-// The addresses of a frame whose length and addresses are right, or a refusal.
+// A frame's destination and source.
 #[derive(Clone, Copy)]
-pub(crate) enum Addresses {
-    Right(Receiver, Sender),
-    Refused(Refusal),
+pub(crate) struct Addresses {
+    pub receiver: Receiver,
+    pub sender: Sender,
 }
 
-// Whether source and destination are unicast.
-pub(crate) fn is_addressed(receiver: Receiver, sender: Sender) -> bool
-    ensures { result ≡ is_addressed receiver.0 sender.0 }
-{
-    is_unicast(sender.0) & is_unicast(receiver.0)
+impl Addresses {
+    // Whether both are unicast.
+    pub(crate) fn are_unicast(self) -> bool
+        ensures { result ≡ is_addressed self.receiver.0 self.sender.0 }
+    {
+        is_unicast(self.sender.0) && is_unicast(self.receiver.0)
+    }
 }
 
-// The addresses of a frame whose head and payload take so many octets.
-fn addresses_in(frame: &[u8], filled: usize) -> Addresses
+// The addresses of a frame whose head and payload take so many octets, where its length and its addresses are right.
+fn addresses_in(frame: &[u8], filled: usize) -> Result<Addresses, Refusal>
     ensures { addresses_of result ≡ sized filled frame.now (yes (dst_in frame.now, src_in frame.now)) }
 {
     let n = frame.len();
-    if filled <= n {
-        if n <= padded_size(filled) {
-            let receiver = Receiver(number_at(frame, 0, 6));
-            let sender = Sender(number_at(frame, 6, 6));
-            if is_addressed(receiver, sender) {
-                Addresses::Right(receiver, sender)
-            } else {
-                Addresses::Refused(Refusal::BadAddress)
-            }
-        } else {
-            Addresses::Refused(Refusal::TooLong)
-        }
-    } else {
-        Addresses::Refused(Refusal::TooShort)
+    if n < filled {
+        return Err(Refusal::TooShort);
     }
+    if padded_size(filled) < n {
+        return Err(Refusal::TooLong);
+    }
+    let addresses = Addresses {
+        receiver: Receiver(number_at(frame, 0, 6)),
+        sender: Sender(number_at(frame, 6, 6)),
+    };
+    if !addresses.are_unicast() {
+        return Err(Refusal::BadAddress);
+    }
+    Ok(addresses)
 }
 
 // CM_AMP_MAP.REQ with so many carriers.
-fn request_of(frame: &[u8], carriers: usize) -> ReadAnswer
+fn request_of(frame: &[u8], carriers: usize) -> Result<MapMessage, Refusal>
     ensures { answer_of result ≡ summary_of (request_of carriers frame.now) }
 {
-    if is_carriers(carriers) {
-        let end = MAP + octets_for(carriers);
-        let found = addresses_in(frame, end);
-        match found {
-            Addresses::Right(receiver, sender) => {
-                if half_at(&frame[MAP..end], carriers) == 0 {
-                    ReadAnswer::AmpMapReq {
-                        receiver,
-                        sender,
-                        carriers,
-                    }
-                } else {
-                    ReadAnswer::Refused(Refusal::BadOctet)
-                }
-            }
-            Addresses::Refused(refusal) => ReadAnswer::Refused(refusal),
-        }
-    } else {
-        ReadAnswer::Refused(Refusal::BadOctet)
+    if !is_carriers(carriers) {
+        return Err(Refusal::BadOctet);
     }
+    let end = MAP + octets_for(carriers);
+    let Addresses { receiver, sender } = addresses_in(frame, end)?;
+    if half_at(&frame[MAP..end], carriers) != 0 {
+        return Err(Refusal::BadOctet);
+    }
+    Ok(MapMessage::AmpMapReq {
+        receiver,
+        sender,
+        carriers,
+    })
 }
 
 // CM_AMP_MAP.REQ, by its AMLEN.
-fn request(frame: &[u8]) -> ReadAnswer
+fn request(frame: &[u8]) -> Result<MapMessage, Refusal>
     ensures { answer_of result ≡ summary_of (request_rules frame.now) }
 {
-    if MAP <= frame.len() {
-        let carriers = low_number_at(frame, HEAD, 2);
-        request_of(frame, carriers as usize)
-    } else {
-        ReadAnswer::Refused(Refusal::TooShort)
+    if frame.len() < MAP {
+        return Err(Refusal::TooShort);
     }
+    let carriers = low_number_at(frame, HEAD, 2);
+    request_of(frame, carriers as usize)
 }
 
 // CM_AMP_MAP.CNF.
-fn confirm(frame: &[u8]) -> ReadAnswer
+fn confirm(frame: &[u8]) -> Result<MapMessage, Refusal>
     ensures { answer_of result ≡ summary_of (confirm_rules frame.now) }
 {
-    let found = addresses_in(frame, HEAD + 1);
-    match found {
-        Addresses::Right(receiver, sender) => {
-            let result = number_at(frame, HEAD, 1);
-            if result < RESULT_LIMIT {
-                let success = result == 0;
-                ReadAnswer::AmpMapCnf {
-                    receiver,
-                    sender,
-                    success,
-                }
-            } else {
-                ReadAnswer::Refused(Refusal::BadOctet)
-            }
-        }
-        Addresses::Refused(refusal) => ReadAnswer::Refused(refusal),
+    let Addresses { receiver, sender } = addresses_in(frame, HEAD + 1)?;
+    let outcome = number_at(frame, HEAD, 1);
+    if RESULT_LIMIT <= outcome {
+        return Err(Refusal::BadOctet);
     }
+    Ok(MapMessage::AmpMapCnf {
+        receiver,
+        sender,
+        success: outcome == 0,
+    })
 }
 
 // A frame whose head names this type.
-pub(crate) fn by_type(frame: &[u8], number: u64) -> ReadAnswer
+pub(crate) fn by_type(frame: &[u8], number: u64) -> Result<MapMessage, Refusal>
     ensures { answer_of result ≡ summary_of (type_rules number frame.now) }
 {
     match number {
         REQ => request(frame),
         CNF => confirm(frame),
-        _ => ReadAnswer::Refused(Refusal::UnknownType),
+        _ => Err(Refusal::UnknownType),
     }
 }

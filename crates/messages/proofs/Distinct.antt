@@ -1,4 +1,5 @@
 -- Proof that the readings of answers tell them apart: each reading can be read back.
+use Rattle.std.specs.Prelude.{Ok, Err}
 use Prim.Native.Nat.{ℕ, ◌-◌}
 use mathlib.Core.Path.{◌≡◌, refl, sym, ap, ◌∙◌}
 use mathlib.Core.List.{List, [], ◌∷◌}
@@ -13,8 +14,6 @@ use Rattle.messages.specs.declared.Refusal.{Refusal}
 use Rattle.messages.specs.declared.Refusal.TheVariants.{TooShort, BadHead, UnknownType, TooLong, BadAddress, BadOctet, NotForUs, WrongState, AdmissionClosed, RecordsFull, NoRecord, WrongPhase, BadSoundCount, TickGap, OutputTooShort, BadConfiguration, OnlyForCars, ReportsFull, OnlyForStations, NoSounds, EmptyRun, OtherTry, OtherGroupCount, OtherCarrierCount}
 use Rattle.messages.specs.declared.Message.{Message}
 use Rattle.messages.specs.declared.Message.TheVariants.{SlacParmReq, SlacParmCnf, StartAttenCharInd, AttenCharInd, AttenCharRsp, MnbcSoundInd, ValidateReq, ValidateCnf, SlacMatchReq, SlacMatchCnf, AttenProfileInd}
-use Rattle.messages.specs.declared.ReadAnswer.TheVariants as read_answer
-use Rattle.messages.specs.declared.Written.TheVariants as written
 use Rattle.messages.proofs.ReadLaws.{message_in}
 
 -- the refusals in the order of their numbers, which begin at 1
@@ -76,15 +75,15 @@ message_back e (SlacMatchCnf s c r n k) b = refl
 message_back e (AttenProfileInd m s c g) b = refl
 
 pub answers_differ : AnswersDiffer
-answers_differ e (read_answer.Read m) (read_answer.Read n) b q =
+answers_differ e (Ok m) (Ok n) b q =
     let same : message_of e m b ≡ message_of e n b = let w : yes (message_of e m b) ≡ yes (message_of e n b) = q in cc in
-    ap read_answer.Read (sym (message_back e m b) ∙ ap value_of same ∙ message_back e n b)
-answers_differ e (read_answer.Read m) (read_answer.Refused y) b q = absurd (let z : ◌≡◌ {A = ℕ} 0 1 = cc in omega arith)
-answers_differ e (read_answer.Refused x) (read_answer.Read n) b q = absurd (let z : ◌≡◌ {A = ℕ} 0 1 = cc in omega arith)
-answers_differ e (read_answer.Refused x) (read_answer.Refused y) b q = ap read_answer.Refused (numbers_differ x y (cc))
+    ap Ok (sym (message_back e m b) ∙ ap value_of same ∙ message_back e n b)
+answers_differ e (Ok m) (Err y) b q = absurd (let z : ◌≡◌ {A = ℕ} 0 1 = cc in omega arith)
+answers_differ e (Err x) (Ok n) b q = absurd (let z : ◌≡◌ {A = ℕ} 0 1 = cc in omega arith)
+answers_differ e (Err x) (Err y) b q = ap Err (numbers_differ x y (cc))
 
 pub written_differ : WrittenDiffer
-written_differ (written.Octets m) (written.Octets n) e = ap written.Octets (cc)
-written_differ (written.Octets m) (written.Refused y) e = absurd (let z : ◌≡◌ {A = ℕ} 0 1 = cc in omega arith)
-written_differ (written.Refused x) (written.Octets n) e = absurd (let z : ◌≡◌ {A = ℕ} 0 1 = cc in omega arith)
-written_differ (written.Refused x) (written.Refused y) e = ap written.Refused (numbers_differ x y (cc))
+written_differ (Ok m) (Ok n) e = ap Ok (cc)
+written_differ (Ok m) (Err y) e = absurd (let z : ◌≡◌ {A = ℕ} 0 1 = cc in omega arith)
+written_differ (Err x) (Ok n) e = absurd (let z : ◌≡◌ {A = ℕ} 0 1 = cc in omega arith)
+written_differ (Err x) (Err y) e = ap Err (numbers_differ x y (cc))

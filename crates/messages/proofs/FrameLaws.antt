@@ -1,7 +1,9 @@
 -- Laws of a whole frame: the payload behind the head, what an accepted frame tells, and its group values.
+use Rattle.std.specs.Prelude.{Result, Err}
 use Prim.Native.Nat.{ℕ, ◌+◌, ◌-◌, ◌≤◌}
 use mathlib.Core.Path.{◌≡◌, refl, sym, ap, ap₂, ◌∙◌, subst}
 use mathlib.Core.Bool.{Bool, true, false, cond}
+use mathlib.Core.Logic.{◌⊎◌, inl, inr}
 use mathlib.Core.List.{List, [], ◌∷◌, ◌++◌}
 use mathlib.Core.Option.{Option, none, some}
 use native.Mathlib.Omega.{arith}
@@ -9,24 +11,25 @@ use borrow.Author.Tests.{eqb-true, leb-true}
 use lib.Dec.{eqb, leb}
 use lib.ListN.{length, take, drop, replicate, length-replicate}
 use lib.Seq.{drop-drop, sets}
-use types.Run.{OneOf, miss}
-use denote.Enum.Declared.{tag_of}
 use Rattle.octets.specs.Octets.{value, low_value, part}
 use Rattle.messages.specs.Layout.{Values, size, holds, filled, read}
 use Rattle.messages.specs.Table as table
 use Rattle.messages.specs.Table.{group_count, id_octets, type_of, count_at, payload_size, head, filled_size, written_size, payload, is_counted, addressed}
-use Rattle.messages.specs.Reading.{Checked, no, yes, check, Form, of_type, kinds, count_rules, sized, typed, kind_rules, payload_rules, frame_rules, read_rules, no_groups, no_id, Beside, no_beside, beside_in, beside_of}
+use Rattle.messages.specs.Reading.{Checked, no, yes, check, Form, of_type, kinds, count_rules, sized, typed, kind_rules, payload_rules, frame_rules, read_rules, no_groups, no_id, Beside, beside_in, beside_of}
 use Rattle.messages.specs.Writing.{is_addressed}
 use Rattle.messages.specs.declared.Edition.{Edition}
 use Rattle.messages.specs.Answers.{number_of, message_of}
-use Rattle.messages.specs.Private.{kind_of, Reads}
+use Rattle.messages.specs.Private.{kind_of, Reads, PayloadOf}
+use Rattle.messages.specs.declared.CarAddress.{CarAddress}
+use Rattle.messages.specs.declared.StationAddress.{StationAddress}
+use Rattle.messages.specs.declared.Nid.{Nid}
+use Rattle.messages.specs.declared.Nmk.{Nmk}
+use Rattle.messages.specs.declared.RunId.{RunId}
+use Rattle.messages.specs.declared.Random.{Random}
 use Rattle.messages.specs.declared.Message.{Message}
-use Rattle.messages.specs.declared.Message.TheVariants.{SlacParmReq, SlacParmCnf, StartAttenCharInd, AttenCharInd, AttenCharRsp, MnbcSoundInd, ValidateReq, ValidateCnf, SlacMatchReq, SlacMatchCnf, AttenProfileInd}
-use Rattle.messages.specs.declared.ReadAnswer.{ReadAnswer}
-use Rattle.messages.specs.declared.ReadAnswer.TheVariants.{Read, Refused}
+use Rattle.messages.specs.declared.Message.TheVariants.{AttenCharInd, AttenCharRsp, MnbcSoundInd, SlacMatchReq, SlacMatchCnf}
 use Rattle.messages.specs.declared.Refusal.{Refusal}
 use Rattle.messages.specs.declared.kinds.Kind.{Kind}
-use Rattle.messages.specs.contracts.Message.{the_type}
 use Rattle.octets.proofs.OctetLaws.{length_part, sets_zeros, sets_whole}
 use Rattle.messages.proofs.LayoutLaws.{holds_take, read_take}
 use Rattle.messages.proofs.CheckLaws.{passed}
@@ -42,29 +45,30 @@ payload_part e k g d f n p h =
     (read_take n p (payload e k g d f) 0 room) (holds_take n p (payload e k g d f) 0 room)
 
 module _ (e : Edition) (s : List ℕ) where
-  -- the count of a kind that was told
-  pub told_count : (i j : Kind) (g : ℕ) → i ≡ j → is_counted e (count_at (kind_of i)) g ≡ true → Bare (count_at (kind_of j)) g
-  told_count i j g q h = bare e (count_at (kind_of j)) g (subst (λ (k : Kind). is_counted e (count_at (kind_of k)) g ≡ true) q h)
-
-  -- a frame of kind i has room for the payload of its kind, and at most group_count group values
-  pub payload_room : (i j : Kind) (g : ℕ) → i ≡ j → filled_size (kind_of i) g ≤ length s → filled_size (kind_of j) g ≤ length s
-  payload_room i j g q h = rw q at h
-
-  pub payload_reads : (r : ReadAnswer) (c g d f n : ℕ) (i j : Kind) → Reads e r (payload_rules e (kind_of j) g d f (take n (drop (size head) s)))
-      → payload_size (kind_of j) g ≤ n → d ≡ value s 0 6 → f ≡ value s 6 6 → i ≡ j → c ≡ g → Reads e r (frame_rules e (yes (record { kind = kind_of i; count = c })) s)
-  payload_reads r c g d f n i j h w ed ef q m =
+  payload_reads : {n : ℕ} {e' : Edition} {p : List ℕ} {d f : ℕ} → PayloadOf e s n e' p d f → {i j : Kind} → i ≡ j → {c g : ℕ} → c ≡ g → (r : Result Message Refusal)
+      → Reads e' r (payload_rules e' (kind_of j) g d f p) → payload_size (kind_of j) g ≤ n → Reads e r (frame_rules e (yes (record { kind = kind_of i; count = c })) s)
+  payload_reads {n} o {i} {j} q {c} {g} m r h w =
       subst (Reads e r)
-      (payload_part e (kind_of j) g d f n (drop (size head) s) w
-      ∙ ap₂ (λ (x y : ℕ). payload_rules e (kind_of j) g x y (drop (size head) s)) ed ef
+      (payload_part e (kind_of j) g (value s 0 6) (value s 6 6) n (drop (size head) s) w
       ∙ ap₂ (λ (k : Kind) (l : ℕ). frame_rules e (yes (record { kind = kind_of k; count = l })) s) (sym q) (sym m))
-      h
+      (rw (o.edition, o.octets, o.dst, o.src) at h)
 
-  pub frame_reads : (r : ReadAnswer) (h : Checked Form) → h ≡ kind_rules e s → Reads e r (frame_rules e h s) → Reads e r (read_rules e s)
+  -- a kind without group values
+  pub bare_reads : {n : ℕ} {e' : Edition} {p : List ℕ} {d f : ℕ} → PayloadOf e s n e' p d f → {i j : Kind} → i ≡ j → (c : ℕ) → is_counted e (count_at (kind_of i)) c ≡ true → (r : Result Message Refusal)
+      → Reads e' r (payload_rules e' (kind_of j) 0 d f p) → count_at (kind_of j) ≡ none → payload_size (kind_of j) 0 ≤ n → Reads e r (frame_rules e (yes (record { kind = kind_of i; count = c })) s)
+  bare_reads o {i} {j} q c t r h b w = payload_reads o q (subst (λ (x : Option ℕ). Bare x c) (ap (λ (k : Kind). count_at (kind_of k)) q ∙ b) (bare e (count_at (kind_of i)) c t)) r h w
+
+  -- a kind with group values, as many as it was found to have
+  pub counted_reads : {n : ℕ} {e' : Edition} {p : List ℕ} {d f : ℕ} → PayloadOf e s n e' p d f → {i j : Kind} → i ≡ j → (c : ℕ) (r : Result Message Refusal)
+      → Reads e' r (payload_rules e' (kind_of j) c d f p) → payload_size (kind_of j) c ≤ n → Reads e r (frame_rules e (yes (record { kind = kind_of i; count = c })) s)
+  counted_reads o q c r h w = payload_reads o q refl r h w
+
+  pub frame_reads : (r : Result Message Refusal) (h : Checked Form) → h ≡ kind_rules e s → Reads e r (frame_rules e h s) → Reads e r (read_rules e s)
   unfolding read_rules
   frame_reads r h q x = subst (Reads e r) (ap (λ (t : Checked Form). frame_rules e t s) q) x
 
-  pub refusal_reads : (x : Refusal) → no (number_of x) ≡ kind_rules e s → Reads e (Refused x) (read_rules e s)
-  refusal_reads x q = frame_reads (Refused x) (no (number_of x)) q refl
+  pub refusal_reads : (x : Refusal) → no (number_of x) ≡ kind_rules e s → Reads e (Err x) (read_rules e s)
+  refusal_reads x q = frame_reads (Err x) (no (number_of x)) q refl
 
 -- ---- what an accepted frame tells
 
@@ -205,41 +209,47 @@ module _ (e : Edition) (s : List ℕ) (m : table.Message) (n : ℕ) (c : m.count
         ∙ at_kind form.form.kind form.form.count (value s 0 6) (value s 6 6) (drop (size head) s) same_kind
         ∙ ap₂ get same_count (drop-drop at (size head) s))
 
--- the answer that a frame was read with, taken apart: a message, or a refusal and so nothing beside
-pub read_as : (e : Edition) (a : ReadAnswer) (m : Message) (x : Checked table.Message) → Reads e a x → a ≡ Read m → yes (message_of e m (beside_of x)) ≡ x
-read_as e a m x h q = subst (λ (r : ReadAnswer). Reads e r x) q h
+-- the identifiers of a frame that reads as a value of the code, by the places where its kind has them
+module _ (e : Edition) (s : List ℕ) where
+  abbrev ReadAs : Message → Type 0
+  ReadAs m = yes (message_of e m (beside_of (read_rules e s))) ≡ read_rules e s
 
-pub refused_beside : (e : Edition) (a : ReadAnswer) (x : Refusal) (y : Checked table.Message) → Reads e a y → a ≡ Refused x → no_beside ≡ beside_of y
-refused_beside e a x y h q = ap beside_of (subst (λ (r : ReadAnswer). Reads e r y) q h)
+  pub record IdsAt (a b : ℕ) : Type 0 where
+    pub room : (size head + a + id_octets ≤ length s) × (size head + b + id_octets ≤ length s)
+    pub read : (part s (size head + a) id_octets ≡ (beside_of (read_rules e s)).first) × (part s (size head + b) id_octets ≡ (beside_of (read_rules e s)).second)
 
--- the other messages have no group values
-pub no_groups_in : (e : Edition) (m : Message) (b : Beside) → OneOf (0 ∷ 1 ∷ 2 ∷ 4 ∷ 5 ∷ 6 ∷ 7 ∷ 8 ∷ 9 ∷ []) (tag_of the_type m) → no_groups ≡ (beside_of (yes (message_of e m b))).groups
-no_groups_in e (SlacParmReq c r) b t = refl
-no_groups_in e (SlacParmCnf s c u r) b t = refl
-no_groups_in e (StartAttenCharInd c u r) b t = refl
-no_groups_in e (AttenCharInd s c r n g) b t = absurd (miss (0 ∷ 1 ∷ 2 ∷ 4 ∷ 5 ∷ 6 ∷ 7 ∷ 8 ∷ 9 ∷ []) 3 tt t)
-no_groups_in e (AttenCharRsp c s r) b t = refl
-no_groups_in e (MnbcSoundInd c n r x) b t = refl
-no_groups_in e (ValidateReq c x d) b t = refl
-no_groups_in e (ValidateCnf s n c x) b t = refl
-no_groups_in e (SlacMatchReq c s r) b t = refl
-no_groups_in e (SlacMatchCnf s c r n k) b t = refl
-no_groups_in e (AttenProfileInd m s c g) b t = absurd (miss (0 ∷ 1 ∷ 2 ∷ 4 ∷ 5 ∷ 6 ∷ 7 ∷ 8 ∷ 9 ∷ []) 10 tt t)
+  ids_at : {j : table.Kind} {a b : ℕ} (m : table.Message) → FirstAt j a × SecondAt j b → m.kind ≡ j → yes m ≡ read_rules e s → IdsAt a b
+  ids_at m x k q = record {
+    room = (stands_room e s m m.count refl q x.0 k, stands_room e s m m.count refl q x.1 k);
+    read = (stands_read e s m m.count refl q x.0 k, stands_read e s m m.count refl q x.1 k);
+  }
 
--- and the others no identifiers
-pub no_ids_in : (e : Edition) (m : Message) (b : Beside) → OneOf (0 ∷ 1 ∷ 2 ∷ 6 ∷ 7 ∷ 10 ∷ []) (tag_of the_type m)
-    → (no_id ≡ (beside_of (yes (message_of e m b))).first) × (no_id ≡ (beside_of (yes (message_of e m b))).second)
-no_ids_in e (SlacParmReq c r) b t = (refl, refl)
-no_ids_in e (SlacParmCnf s c u r) b t = (refl, refl)
-no_ids_in e (StartAttenCharInd c u r) b t = (refl, refl)
-no_ids_in e (AttenCharInd s c r n g) b t = absurd (miss (0 ∷ 1 ∷ 2 ∷ 6 ∷ 7 ∷ 10 ∷ []) 3 tt t)
-no_ids_in e (AttenCharRsp c s r) b t = absurd (miss (0 ∷ 1 ∷ 2 ∷ 6 ∷ 7 ∷ 10 ∷ []) 4 tt t)
-no_ids_in e (MnbcSoundInd c n r x) b t = absurd (miss (0 ∷ 1 ∷ 2 ∷ 6 ∷ 7 ∷ 10 ∷ []) 5 tt t)
-no_ids_in e (ValidateReq c x d) b t = (refl, refl)
-no_ids_in e (ValidateCnf s n c x) b t = (refl, refl)
-no_ids_in e (SlacMatchReq c s r) b t = absurd (miss (0 ∷ 1 ∷ 2 ∷ 6 ∷ 7 ∷ 10 ∷ []) 8 tt t)
-no_ids_in e (SlacMatchCnf s c r n k) b t = absurd (miss (0 ∷ 1 ∷ 2 ∷ 6 ∷ 7 ∷ 10 ∷ []) 9 tt t)
-no_ids_in e (AttenProfileInd m s c g) b t = (refl, refl)
+  pub profile_ids : (m : Message)
+      → ((x : StationAddress) × (c : CarAddress) × (r : RunId) × (n : ℕ) × (g : ℕ) × (m ≡ AttenCharInd x c r n g)) ⊎ ((c : CarAddress) × (x : StationAddress) × (r : RunId) × (m ≡ AttenCharRsp c x r))
+      → ReadAs m → IdsAt 16 33
+  profile_ids m (inl (x, c, r, n, g, i)) q = ids_at _ atten_char_ind_ids refl (subst ReadAs i q)
+  profile_ids m (inr (c, x, r, i)) q = ids_at _ atten_char_rsp_ids refl (subst ReadAs i q)
+
+  pub match_ids : (m : Message)
+      → ((c : CarAddress) × (x : StationAddress) × (r : RunId) × (m ≡ SlacMatchReq c x r)) ⊎ ((x : StationAddress) × (c : CarAddress) × (r : RunId) × (n : Nid) × (k : Nmk) × (m ≡ SlacMatchCnf x c r n k))
+      → ReadAs m → IdsAt 4 27
+  match_ids m (inl (c, x, r, i)) q = ids_at _ slac_match_req_ids refl (subst ReadAs i q)
+  match_ids m (inr (x, c, r, n, k, i)) q = ids_at _ slac_match_cnf_ids refl (subst ReadAs i q)
+
+  -- and its group values, so many
+  pub groups_of : {j : table.Kind} {at : ℕ} {m m' : Message} → m ≡ m' → ReadAs m → GroupsAt j at → (message_of e m' (beside_of (read_rules e s))).kind ≡ j
+      → let n = (message_of e m' (beside_of (read_rules e s))).count in ((n ≤ group_count) × (size head + at + n ≤ length s)) × (groups_from n (drop (size head + at) s) ≡ (beside_of (read_rules e s)).groups)
+  groups_of i q x k =
+      let w = subst ReadAs i q in
+      ((count_most e s _ _ refl w, stands_room e s _ _ refl w x k), stands_read e s _ _ refl w x k)
+
+  pub sound_id : (m : Message) {c : CarAddress} {n : ℕ} {r : RunId} {x : Random} → m ≡ MnbcSoundInd c n r x → ReadAs m
+      → (size head + 2 + id_octets ≤ length s) × ((part s (size head + 2) id_octets ≡ (beside_of (read_rules e s)).first) × (no_id ≡ (beside_of (read_rules e s)).second))
+  sound_id m {c} {n} {r} {x} i q =
+      let w = subst ReadAs i q in (
+        stands_room e s _ 0 refl w mnbc_sound_ind_id refl,
+        (stands_read e s _ 0 refl w mnbc_sound_ind_id refl, ap (λ (y : Checked table.Message). (beside_of y).second) w),
+      )
 
 -- ---- arrays that are filled
 

@@ -1,4 +1,5 @@
 -- Laws of the rule of reading, for the readers' proofs.
+use Rattle.std.specs.Prelude.{Result}
 use Prim.Native.Nat.{ℕ, ◌+◌, ◌^◌, ◌≤◌, ◌<◌}
 use mathlib.Core.Path.{◌≡◌, refl, sym, ap, ap₂, ◌∙◌}
 use mathlib.Core.Bool.{Bool, true, false, ◌&&◌, and-true, and_assoc}
@@ -18,7 +19,7 @@ use Rattle.messages.specs.Private.{Reads}
 use Rattle.messages.specs.declared.Edition.{Edition}
 use Rattle.messages.specs.declared.Message.{Message}
 use Rattle.messages.specs.declared.Message.TheVariants.{SlacParmReq, SlacParmCnf, StartAttenCharInd, AttenCharInd, AttenCharRsp, MnbcSoundInd, ValidateReq, ValidateCnf, SlacMatchReq, SlacMatchCnf, AttenProfileInd}
-use Rattle.messages.specs.declared.ReadAnswer.{ReadAnswer}
+use Rattle.messages.specs.declared.Refusal.{Refusal}
 use Rattle.octets.proofs.OctetLaws.{low_lt}
 use Rattle.messages.proofs.LayoutLaws.{and_right}
 use Rattle.messages.proofs.CheckLaws.{pass, fail}
@@ -86,7 +87,7 @@ message_in_lem e slac_match_cnf g d f vs b q = ap (λ (n : ℕ). record { editio
 message_in_lem e atten_profile_ind g d f vs b q = refl
 
 -- an answer that goes by the rule's two tests and holds the message in the payload is the rule's
-module _ (e : Edition) (k : Kind) (g d f : ℕ) (p : List ℕ) (r : ReadAnswer) where
+module _ (e : Edition) (k : Kind) (g d f : ℕ) (p : List ℕ) (r : Result Message Refusal) where
   abbrev values : Values (payload e k g d f)
   values = read 0 (payload e k g d f) p
 

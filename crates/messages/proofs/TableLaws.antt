@@ -5,18 +5,18 @@ use mathlib.Core.Bool.{Bool, true, false, ◌&&◌, ◌||◌, not}
 use mathlib.Core.List.{List}
 use mathlib.Core.Option.{Option, none, some}
 use native.Mathlib.Omega.{arith}
-use borrow.Author.Tests.{eqb-true, eq-eqb, ltb-true, lt-ltb, le-ltb, leb-true}
+use borrow.Author.Tests.{eqb-true, eq-eqb, ltb-true, lt-ltb, leb-true}
 use lib.Dec.{eqb, leb, ltb}
 use lib.ListN.{length, drop}
 use Rattle.octets.specs.Octets.{value}
 use Rattle.messages.specs.Layout.{Values, size, zeros, holds}
 use Rattle.messages.specs.Table.{Kind, slac_parm_req, slac_parm_cnf, start_atten_char_ind, atten_char_ind, atten_char_rsp, mnbc_sound_ind, validate_req, validate_cnf, slac_match_req, slac_match_cnf, atten_profile_ind, group_count, id_octets, any_id, is_count, type_of, count_at, payload_size, head, broadcast, is_unicast, is_receiver, payload, is_counted, addressed}
-use Rattle.messages.specs.Reading.{no, yes, of_type, kinds, sized, typed, count_rules}
+use Rattle.messages.specs.Reading.{yes, of_type, kinds, typed, count_rules}
 use Rattle.messages.specs.declared.Edition.{Edition}
 use Rattle.messages.specs.declared.Edition.TheVariants.{Iso, Sae}
 use Rattle.octets.proofs.OctetLaws.{value_drop}
 use Rattle.messages.proofs.LayoutLaws.{and_left, and_right}
-use Rattle.messages.proofs.CheckLaws.{pass, fail, passed}
+use Rattle.messages.proofs.CheckLaws.{pass, passed}
 
 -- the fields of a payload take the octets that the table says
 pub size_payload : (e : Edition) (k : Kind) (g d f : ℕ) → size (payload e k g d f) ≡ payload_size k g
@@ -174,26 +174,3 @@ addressed_lt e validate_cnf g d f vs h = to_one d f h
 addressed_lt e slac_match_req g d f vs h = to_one d f h
 addressed_lt e slac_match_cnf g d f vs h = to_one d f h
 addressed_lt e atten_profile_ind g d f vs h = to_one d f (and_left (is_unicast f && is_unicast d) _ h)
-
--- ---- the group count, as the code finds it
-
-module _ (e : Edition) (k : Kind) (at : ℕ) (s : List ℕ) where
-  pub count_fixed : e ≡ Iso → sized k (length s) (yes group_count) ≡ sized k (length s) (count_rules e (some at) s)
-  count_fixed q = rw q
-
-  module _ (q : e ≡ Sae) where
-    pub count_short : length s ≤ size head + at → no 1 ≡ sized k (length s) (count_rules e (some at) s)
-    count_short h = rw q (sym (ap (sized k (length s)) (fail (ltb (size head + at) (length s)) 1 _ (le-ltb (size head + at) (length s) h))))
-
-    module _ (h : size head + at < length s) (g : ℕ) (v : g ≡ value s (size head + at) 1) where
-      pub count_bad : is_count Sae g ≡ false → no 6 ≡ sized k (length s) (count_rules e (some at) s)
-      count_bad b =
-          rw q
-          (sym (ap (sized k (length s))
-          (pass (ltb (size head + at) (length s)) 1 _ (lt-ltb (size head + at) (length s) h) ∙ fail (is_count Sae (value s (size head + at) 1)) 6 _ (ap (is_count Sae) (sym v) ∙ b))))
-
-      pub count_taken : is_count Sae g ≡ true → sized k (length s) (yes g) ≡ sized k (length s) (count_rules e (some at) s)
-      count_taken b =
-          rw q
-          (ap (sized k (length s))
-          (sym (pass (ltb (size head + at) (length s)) 1 _ (lt-ltb (size head + at) (length s) h) ∙ pass (is_count Sae (value s (size head + at) 1)) 6 _ (ap (is_count Sae) (sym v) ∙ b) ∙ ap yes (sym v))))

@@ -1,7 +1,8 @@
 -- Laws of the rules of writing, for the writers' proofs.
+use Rattle.std.specs.Prelude.{Result, Ok, Err}
 use Prim.Native.Nat.{ℕ, ◌+◌, ◌-◌, ◌^◌, ◌≤◌, ◌<◌}
 use mathlib.Core.Path.{◌≡◌, refl, sym, ap, ap₂, ◌∙◌, subst}
-use mathlib.Core.Bool.{Bool, true, false, ◌&&◌, false≢true, and-true}
+use mathlib.Core.Bool.{Bool, true, false, ◌&&◌, false≢true, and_assoc}
 use mathlib.Core.List.{List, [], ◌∷◌, ◌++◌}
 use mathlib.Core.Option.{some}
 use native.Mathlib.Omega.{arith}
@@ -14,15 +15,17 @@ use lib.Seq.{sets, length-sets}
 use Rattle.octets.specs.Octets.{value, bytes, splice}
 use Rattle.messages.specs.Layout.{Field, Values, width, size, zeros, encode, fits}
 use Rattle.messages.specs.Table as table
-use Rattle.messages.specs.Table.{group_count, id_octets, iso_attempt, first_attempt, later_attempt, is_attempt, resp_type, forwarding, any_id, is_count, type_of, count_at, payload_size, head, filled_size, written_size, broadcast, is_unicast, timer_limit, result_limit, match_fields, key_fields, payload, is_counted}
+use Rattle.messages.specs.Table.{group_count, id_octets, iso_attempt, first_attempt, later_attempt, is_attempt, resp_type, forwarding, any_id, is_count, type_of, count_at, payload_size, head, filled_size, written_size, broadcast, is_unicast, is_receiver, timer_limit, result_limit, match_fields, key_fields, payload, is_counted}
 use Rattle.messages.specs.Writing.{head_octets, payload_octets, padding, frame, is_addressed, is_limited, length_in, write_rules, length_of, octets_of}
-use Rattle.messages.specs.Reading.{Checked, no, yes, no_groups, no_id, Beside, no_beside}
-use Rattle.messages.specs.Answers.{message_of, besides}
-use Rattle.messages.specs.Private.{kind_of, to_all, to_one, to_either, id_right, ids_right, groups_right, HeadOf, PayloadRoom}
+use Rattle.messages.specs.Reading.{Checked, no, yes, check, no_groups, no_id, Beside, no_beside}
+use Rattle.messages.specs.Answers.{number_of, message_of, besides, checked_of}
+use Rattle.messages.specs.Private.{kind_of, id_right, ids_right, groups_right, Heads, Judges, PayloadRoom}
 use Rattle.messages.specs.declared.Edition.{Edition}
 use Rattle.messages.specs.declared.Edition.TheVariants.{Iso, Sae}
 use Rattle.messages.specs.declared.Ids.{Ids}
+use Rattle.messages.specs.declared.kinds.Kind.{Kind}
 use Rattle.messages.specs.declared.kinds.Kind.TheVariants as kind
+use Rattle.messages.specs.declared.Refusal.{Refusal}
 use Rattle.messages.specs.declared.writer.Head.{Head}
 use Rattle.messages.specs.declared.Message.{Message}
 use Rattle.messages.specs.declared.Message.TheVariants.{SlacParmReq, SlacParmCnf, StartAttenCharInd, AttenCharInd, AttenCharRsp, MnbcSoundInd, ValidateReq, ValidateCnf, SlacMatchReq, SlacMatchCnf, AttenProfileInd}
@@ -125,7 +128,7 @@ module _ (m : table.Message) (full : FullIn m) where
       ∙ sym (sets_append h (p ++ z) l 0)
 
   -- the same as the code does it: each in a part that is lent, the sizes by the head's kind and count
-  module _ (h : Head) (o : HeadOf h m) (l : List ℕ) (filled written : ℕ) (f : filled ≡ filled_size (kind_of h.kind) h.count) (w : written ≡ written_size (kind_of h.kind) h.count) (room : written_size m.kind m.count ≤ length l) where
+  module _ (h : Head) (o : Heads h m) (l : List ℕ) (filled written : ℕ) (f : filled ≡ filled_size (kind_of h.form.kind) h.form.count) (w : written ≡ written_size (kind_of h.form.kind) h.form.count) (room : written_size m.kind m.count ≤ length l) where
     filled_size_lem : filled ≡ filled_size m.kind m.count
     filled_size_lem = f ∙ ap₂ filled_size o.kind o.count
 
@@ -139,14 +142,14 @@ module _ (m : table.Message) (full : FullIn m) where
     pub payload_fits : payload_size m.kind m.count ≤ filled - size head
     payload_fits = omega (arith, filled_size_lem)
 
-    pub frame_put : (a b z : List ℕ) → a ≡ sets (take (size head) l) 0 (encode head (h.dst, (h.src, (type_of (kind_of h.kind), tt))))
+    pub frame_put : (a b z : List ℕ) (t : ℕ) → t ≡ type_of (kind_of h.form.kind) → a ≡ sets (take (size head) l) 0 (encode head (h.dst, (h.src, (t, tt))))
         → b ≡ sets (take (filled - size head) (drop (size head) (put_mid 0 (size head) l a))) 0 (payload_octets m)
         → z ≡ sets (take (written - filled) (drop filled (put_mid (size head) (filled - size head) (put_mid 0 (size head) l a) b))) 0 (bytes (written - filled) 0)
         → put_mid filled (written - filled) (put_mid (size head) (filled - size head) (put_mid 0 (size head) l a) b) z ≡ sets l 0 (frame m)
-    frame_put a b z ea eb ez =
+    frame_put a b z t et ea eb ez =
         let x : List ℕ = put_mid 0 (size head) l a in
         let y : List ℕ = put_mid (size head) (filled - size head) x b in
-        let ea' : a ≡ sets (take (size head) l) 0 (head_octets m) = ea ∙ simp (o.dst, o.src, o.kind) in
+        let ea' : a ≡ sets (take (size head) l) 0 (head_octets m) = ea ∙ simp (et, o.dst, o.src, o.kind) in
         let ex : x ≡ sets l 0 (head_octets m) = ap (put_mid 0 (size head) l) ea' ∙ sets_lent 0 (size head) l (head_octets m) (omega (arith, parts_fit)) (omega (arith, length_head)) in
         let lx : length x ≡ length l = ap length ex ∙ length-sets l 0 (head_octets m) in
         let ey : y ≡ sets x (size head) (payload_octets m) = ap (put_mid (size head) (filled - size head) x) eb ∙ sets_lent (size head) (filled - size head) x (payload_octets m) (omega (arith, parts_fit, lx)) (omega (arith, length_payload, payload_fits)) in
@@ -336,37 +339,68 @@ module _ (e : Edition) (b : Beside) (w : Whole b) where
       (λ q. let x = groups_fit g q in ap₂ ◌&&◌ x.0 (from_fits fs vs (u, (x.1, (zero_fits 1, ((x.2, x.3), tt))))))
       (λ q. let x = to_fits fs vs (and_right (is_count e g) _ q) in ap₂ ◌&&◌ (and_left (is_count e g) _ q) (eq-eqb _ 0 x.1.1.1.0.1))
 
--- the head that each message has
-abbrev pub head_in : Edition → Message → Beside → Head
-head_in e (SlacParmReq c r) b = to_all kind.SlacParmReq c.0 true
-head_in e (SlacParmCnf s c t r) b = to_one kind.SlacParmCnf 0 c.0 s.0 true (is_attempt e t.0)
-head_in e (StartAttenCharInd c t r) b = to_all kind.StartAttenCharInd c.0 (is_attempt e t.0)
-head_in e (AttenCharInd s c r n g) b = to_one kind.AttenCharInd g c.0 s.0 true (ids_right e b && groups_right e g b)
-head_in e (AttenCharRsp c s r) b = to_one kind.AttenCharRsp 0 s.0 c.0 true (ids_right e b)
-head_in e (MnbcSoundInd c n r x) b = to_all kind.MnbcSoundInd c.0 (id_right e b.first)
-head_in e (ValidateReq c t d) b = to_either kind.ValidateReq d.0 c.0 (ltb t (timer_limit d.0))
-head_in e (ValidateCnf s n c x) b = to_one kind.ValidateCnf 0 c.0 s.0 true (ltb x result_limit)
-head_in e (SlacMatchReq c s r) b = to_one kind.SlacMatchReq 0 s.0 c.0 true (ids_right e b)
-head_in e (SlacMatchCnf s c r n k) b = to_one kind.SlacMatchCnf 0 c.0 s.0 true (ids_right e b && ltb n.0 (2 ^ 54))
-head_in e (AttenProfileInd m s c g) b = to_one kind.AttenProfileInd g s.0 m.0 (is_unicast c.0) (groups_right e g b)
+-- a head, and the two tests that come before it is written
+pub record Tested : Type 0 where
+  pub head : Head
+  pub addressed : Bool
+  pub limited : Bool
+
+-- those of a message of this kind with so many group values, whose source is tested too
+abbrev pub tested : Kind → ℕ → ℕ → ℕ → Bool → Bool → Tested
+tested k g d f a l = record { head = record { form = record { kind = k; count = g }; dst = d; src = f }; addressed = is_unicast f && a; limited = l }
+
+-- those that each message has
+abbrev pub head_in : Edition → Message → Beside → Tested
+head_in e (SlacParmReq c r) b = tested kind.SlacParmReq 0 broadcast c.0 true true
+head_in e (SlacParmCnf s c t r) b = tested kind.SlacParmCnf 0 c.0 s.0 (is_unicast c.0) (is_attempt e t.0)
+head_in e (StartAttenCharInd c t r) b = tested kind.StartAttenCharInd 0 broadcast c.0 true (is_attempt e t.0)
+head_in e (AttenCharInd s c r n g) b = tested kind.AttenCharInd g c.0 s.0 (is_unicast c.0) (ids_right e b && groups_right e g b)
+head_in e (AttenCharRsp c s r) b = tested kind.AttenCharRsp 0 s.0 c.0 (is_unicast s.0) (ids_right e b)
+head_in e (MnbcSoundInd c n r x) b = tested kind.MnbcSoundInd 0 broadcast c.0 true (id_right e b.first)
+head_in e (ValidateReq c t d) b = tested kind.ValidateReq 0 d.0 c.0 (is_receiver d.0) (ltb t (timer_limit d.0))
+head_in e (ValidateCnf s n c x) b = tested kind.ValidateCnf 0 c.0 s.0 (is_unicast c.0) (ltb x result_limit)
+head_in e (SlacMatchReq c s r) b = tested kind.SlacMatchReq 0 s.0 c.0 (is_unicast s.0) (ids_right e b)
+head_in e (SlacMatchCnf s c r n k) b = tested kind.SlacMatchCnf 0 c.0 s.0 (is_unicast c.0) (ids_right e b && ltb n.0 (2 ^ 54))
+head_in e (AttenProfileInd m s c g) b = tested kind.AttenProfileInd g s.0 m.0 (is_unicast s.0 && is_unicast c.0) (groups_right e g b)
+
+-- t is the head of m with m's tests
+pub record HeadOf (t : Tested) (m : table.Message) : Type 0 where
+  pub heads : Heads t.head m
+  pub addressed : t.addressed ≡ is_addressed m
+  pub limited : is_addressed m ≡ true → t.limited ≡ is_limited m
 
 module _ (e : Edition) (b : Beside) (w : Whole b) where
   head_in_lem : (m : Message) → Typed m → HeadOf (head_in e m b) (message_of e m b)
-  head_in_lem (SlacParmReq c r) t = record { kind = refl; count = refl; dst = refl; src = refl; addressed = sym (and-true _); limited = limits e b w (SlacParmReq c r) t }
-  head_in_lem (SlacParmCnf s c u r) t = record { kind = refl; count = refl; dst = refl; src = refl; addressed = and-true _; limited = limits e b w (SlacParmCnf s c u r) t }
-  head_in_lem (StartAttenCharInd c u r) t = record { kind = refl; count = refl; dst = refl; src = refl; addressed = sym (and-true _); limited = limits e b w (StartAttenCharInd c u r) t }
-  head_in_lem (AttenCharInd s c r n g) t = record { kind = refl; count = refl; dst = refl; src = refl; addressed = and-true _; limited = limits e b w (AttenCharInd s c r n g) t }
-  head_in_lem (AttenCharRsp c s r) t = record { kind = refl; count = refl; dst = refl; src = refl; addressed = and-true _; limited = limits e b w (AttenCharRsp c s r) t }
-  head_in_lem (MnbcSoundInd c n r x) t = record { kind = refl; count = refl; dst = refl; src = refl; addressed = sym (and-true _); limited = limits e b w (MnbcSoundInd c n r x) t }
-  head_in_lem (ValidateReq c x d) t = record { kind = refl; count = refl; dst = refl; src = refl; addressed = refl; limited = limits e b w (ValidateReq c x d) t }
-  head_in_lem (ValidateCnf s n c x) t = record { kind = refl; count = refl; dst = refl; src = refl; addressed = and-true _; limited = limits e b w (ValidateCnf s n c x) t }
-  head_in_lem (SlacMatchReq c s r) t = record { kind = refl; count = refl; dst = refl; src = refl; addressed = and-true _; limited = limits e b w (SlacMatchReq c s r) t }
-  head_in_lem (SlacMatchCnf s c r n k) t = record { kind = refl; count = refl; dst = refl; src = refl; addressed = and-true _; limited = limits e b w (SlacMatchCnf s c r n k) t }
-  head_in_lem (AttenProfileInd m s c g) t = record { kind = refl; count = refl; dst = refl; src = refl; addressed = refl; limited = limits e b w (AttenProfileInd m s c g) t }
+  head_in_lem (SlacParmReq c r) t = record { heads = record { kind = refl; count = refl; dst = refl; src = refl }; addressed = refl; limited = limits e b w (SlacParmReq c r) t }
+  head_in_lem (SlacParmCnf s c u r) t = record { heads = record { kind = refl; count = refl; dst = refl; src = refl }; addressed = refl; limited = limits e b w (SlacParmCnf s c u r) t }
+  head_in_lem (StartAttenCharInd c u r) t = record { heads = record { kind = refl; count = refl; dst = refl; src = refl }; addressed = refl; limited = limits e b w (StartAttenCharInd c u r) t }
+  head_in_lem (AttenCharInd s c r n g) t = record { heads = record { kind = refl; count = refl; dst = refl; src = refl }; addressed = refl; limited = limits e b w (AttenCharInd s c r n g) t }
+  head_in_lem (AttenCharRsp c s r) t = record { heads = record { kind = refl; count = refl; dst = refl; src = refl }; addressed = refl; limited = limits e b w (AttenCharRsp c s r) t }
+  head_in_lem (MnbcSoundInd c n r x) t = record { heads = record { kind = refl; count = refl; dst = refl; src = refl }; addressed = refl; limited = limits e b w (MnbcSoundInd c n r x) t }
+  head_in_lem (ValidateReq c x d) t = record { heads = record { kind = refl; count = refl; dst = refl; src = refl }; addressed = refl; limited = limits e b w (ValidateReq c x d) t }
+  head_in_lem (ValidateCnf s n c x) t = record { heads = record { kind = refl; count = refl; dst = refl; src = refl }; addressed = refl; limited = limits e b w (ValidateCnf s n c x) t }
+  head_in_lem (SlacMatchReq c s r) t = record { heads = record { kind = refl; count = refl; dst = refl; src = refl }; addressed = refl; limited = limits e b w (SlacMatchReq c s r) t }
+  head_in_lem (SlacMatchCnf s c r n k) t = record { heads = record { kind = refl; count = refl; dst = refl; src = refl }; addressed = refl; limited = limits e b w (SlacMatchCnf s c r n k) t }
+  head_in_lem (AttenProfileInd m s c g) t = record { heads = record { kind = refl; count = refl; dst = refl; src = refl }; addressed = sym (and_assoc (is_unicast m.0) (is_unicast s.0) (is_unicast c.0)); limited = limits e b w (AttenProfileInd m s c g) t }
 
   -- as the code finds it: the message is m', and h is the head of m'
-  pub headed : (h : Head) (m m' : Message) → m ≡ m' → Typed m' → h ≡ head_in e m' b → HeadOf h (message_of e m b)
-  headed h m m' r t q = subst (λ (x : Head). HeadOf x (message_of e m b)) (sym q) (subst (λ (x : Message). HeadOf (head_in e m' b) (message_of e x b)) (sym r) (head_in_lem m' t))
+  pub headed : (h : Tested) (m m' : Message) → m ≡ m' → Typed m' → h ≡ head_in e m' b → HeadOf h (message_of e m b)
+  headed h m m' r t q = subst (λ (x : Tested). HeadOf x (message_of e m b)) (sym q) (subst (λ (x : Message). HeadOf (head_in e m' b) (message_of e x b)) (sym r) (head_in_lem m' t))
+
+  judged : (r : Result Head Refusal) (h : Head) (m : table.Message) (x y : Bool) → Heads h m → x ≡ is_addressed m → (is_addressed m ≡ true → y ≡ is_limited m)
+      → checked_of r ≡ check x 5 (check y 6 (yes h)) → Judges r m
+  judged (Ok g) h m true true k a l q = record { heads = subst (λ (z : Head). Heads z m) (cc) k; addressed = sym a; limited = sym (l (sym a)) }
+  judged (Err z) h m true true k a l q = absurd (let z : ◌≡◌ {A = ℕ} 0 1 = cc in omega arith)
+  judged (Ok g) h m true false k a l q = absurd (let z : ◌≡◌ {A = ℕ} 0 1 = cc in omega arith)
+  judged (Err z) h m true false k a l q = λ y. rw (sym a, sym (l (sym a))) (ap no (cc))
+  judged (Ok g) h m false y k a l q = absurd (let z : ◌≡◌ {A = ℕ} 0 1 = cc in omega arith)
+  judged (Err z) h m false y k a l q = λ y. rw (sym a) (ap no (cc))
+
+  -- the code's answer by the two tests of the message m', which is the message
+  pub judges : {m m' : Message} → m ≡ m' → Typed m' → (r : Result Head Refusal) → checked_of r ≡ check (head_in e m' b).addressed 5 (check (head_in e m' b).limited 6 (yes (head_in e m' b).head)) → Judges r (message_of e m b)
+  judges {m} {m'} q t r h =
+      let k = head_in_lem m' t in
+      subst (λ (x : Message). Judges r (message_of e x b)) (sym q) (judged r (head_in e m' b).head (message_of e m' b) (head_in e m' b).addressed (head_in e m' b).limited k.heads k.addressed k.limited h)
 
 -- ---- the order of writing's refusals
 
@@ -379,15 +413,11 @@ module _ (m : table.Message) (l : List ℕ) where
   unfolding splice
   refuses n e = (ap length_of e, ap (λ (x : Checked (List ℕ)). splice 0 (octets_of x) l) e)
 
-  pub unaddressed : is_addressed m ≡ false → Refuses 5
+  pub refused : (x : Refusal) → Judges (Err x) m → Refuses (number_of x)
   unfolding write_rules
-  unaddressed a = refuses 5 (sym (fail (is_addressed m) 5 _ a))
+  refused x j = refuses (number_of x) (j _)
 
   module _ (a : is_addressed m ≡ true) where
-    pub unlimited : is_limited m ≡ false → Refuses 6
-    unfolding write_rules
-    unlimited b = refuses 6 (sym (pass (is_addressed m) 5 _ a ∙ fail (is_limited m) 6 _ b))
-
     module _ (b : is_limited m ≡ true) where
       pub too_short : length l < length_in m → Refuses 15
       unfolding write_rules

@@ -1,5 +1,5 @@
 -- Document 01's numbers and values for each case of the answers that the code gives.
-use Rattle.std.specs.Prelude.{ℕ, List}
+use Rattle.std.specs.Prelude.{ℕ, List, Result, Ok, Err}
 use Rattle.messages.specs.Table as table
 use Rattle.messages.specs.Table.{broadcast}
 use Rattle.messages.specs.Reading.{Checked, no, yes, Beside}
@@ -9,12 +9,6 @@ use Rattle.messages.specs.declared.Refusal.{Refusal}
 use Rattle.messages.specs.declared.Refusal.TheVariants.{TooShort, BadHead, UnknownType, TooLong, BadAddress, BadOctet, NotForUs, WrongState, AdmissionClosed, RecordsFull, NoRecord, WrongPhase, BadSoundCount, TickGap, OutputTooShort, BadConfiguration, OnlyForCars, ReportsFull, OnlyForStations, NoSounds, EmptyRun, OtherTry, OtherGroupCount, OtherCarrierCount}
 use Rattle.messages.specs.declared.Message.{Message}
 use Rattle.messages.specs.declared.Message.TheVariants.{SlacParmReq, SlacParmCnf, StartAttenCharInd, AttenCharInd, AttenCharRsp, MnbcSoundInd, ValidateReq, ValidateCnf, SlacMatchReq, SlacMatchCnf, AttenProfileInd}
-use Rattle.messages.specs.declared.ReadAnswer.{ReadAnswer}
-use Rattle.messages.specs.declared.ReadAnswer.TheVariants as read_answer
-use Rattle.messages.specs.declared.heads.TypeAnswer.{TypeAnswer}
-use Rattle.messages.specs.declared.heads.TypeAnswer.TheVariants as type_answer
-use Rattle.messages.specs.declared.Written.{Written}
-use Rattle.messages.specs.declared.Written.TheVariants as written
 
 -- "numbers given back instead of an answer"
 abbrev pub number_of : Refusal → ℕ
@@ -61,17 +55,13 @@ message_of e (AttenProfileInd modem station car count) b = record { edition = e;
 abbrev pub besides : List ℕ → Ids → Beside
 besides groups ids = record { groups = groups; first = ids.first; second = ids.second }
 
--- what the head names
-abbrev pub type_answer_of : TypeAnswer → Checked ℕ
-type_answer_of (type_answer.Refused x) = no (number_of x)
-type_answer_of (type_answer.Type t) = yes t
+module _ {A : Type 0} where
+  -- what a function answered: a refusal's number, or the value
+  abbrev pub checked_of : Result A Refusal → Checked A
+  checked_of (Err x) = no (number_of x)
+  checked_of (Ok a) = yes a
 
 -- what reading answered, with what stands beside
-abbrev pub answer_of : Edition → ReadAnswer → Beside → Checked table.Message
-answer_of e (read_answer.Refused x) b = no (number_of x)
-answer_of e (read_answer.Read m) b = yes (message_of e m b)
-
--- what writing answered: how many octets the frame takes
-abbrev pub written_of : Written → Checked ℕ
-written_of (written.Refused x) = no (number_of x)
-written_of (written.Octets n) = yes n
+abbrev pub answer_of : Edition → Result Message Refusal → Beside → Checked table.Message
+answer_of e (Err x) b = no (number_of x)
+answer_of e (Ok m) b = yes (message_of e m b)

@@ -1,17 +1,16 @@
 -- What is proved of the definitions: the two round trips of demand 2, that answers are told apart, and that cars are unicast.
-use Rattle.std.specs.Prelude.{ℕ, ◌≡◌, true, List, ◌++◌, leb, drop}
+use Rattle.std.specs.Prelude.{ℕ, ◌≡◌, true, List, ◌++◌, leb, drop, Result}
 use Rattle.std.proofs.Math.Option.{some}
 use Rattle.octets.specs.Octets.{Octets}
 use Rattle.messages.specs.Layout.{size, zeroed}
 use Rattle.messages.specs.Table.{is_unicast, head, payload, Message}
 use Rattle.messages.specs.Reading.{yes, check, read_rules, Beside, car_of}
 use Rattle.messages.specs.Writing.{padding, length_in, write_rules}
-use Rattle.messages.specs.Answers.{number_of, answer_of, written_of}
+use Rattle.messages.specs.Answers.{number_of, answer_of, checked_of}
 use Rattle.messages.specs.declared.Edition.{Edition}
 use Rattle.messages.specs.declared.CarAddress.{CarAddress}
 use Rattle.messages.specs.declared.Refusal.{Refusal}
-use Rattle.messages.specs.declared.ReadAnswer.{ReadAnswer}
-use Rattle.messages.specs.declared.Written.{Written}
+use Rattle.messages.specs.declared.Message as code
 
 -- reading what was written gives the message, for every message that writing accepts
 abbrev pub ReadsWritten : Type 0
@@ -33,11 +32,11 @@ NumbersDiffer = (x y : Refusal) → number_of x ≡ number_of y → x ≡ y
 
 -- each answer of reading has a meaning of its own, with whatever stands beside
 abbrev pub AnswersDiffer : Type 0
-AnswersDiffer = (e : Edition) (a b : ReadAnswer) (g : Beside) → answer_of e a g ≡ answer_of e b g → a ≡ b
+AnswersDiffer = (e : Edition) (a b : Result code.Message Refusal) (g : Beside) → answer_of e a g ≡ answer_of e b g → a ≡ b
 
 -- each answer of writing has a meaning of its own
 abbrev pub WrittenDiffer : Type 0
-WrittenDiffer = (a b : Written) → written_of a ≡ written_of b → a ≡ b
+WrittenDiffer = (a b : Result ℕ Refusal) → checked_of a ≡ checked_of b → a ≡ b
 
 -- a car that a frame names has a unicast address
 abbrev pub CarsUnicast : Type 0

@@ -10,7 +10,7 @@ pub(crate) fn is_attempt(edition: Edition, v: u64) -> bool
 {
     match edition {
         Edition::Iso => v == ISO_ATTEMPT,
-        Edition::Sae => (v == FIRST_ATTEMPT) | (v == LATER_ATTEMPT),
+        Edition::Sae => matches!(v, FIRST_ATTEMPT | LATER_ATTEMPT),
     }
 }
 
@@ -38,10 +38,7 @@ pub(crate) fn forwarding_to(edition: Edition, car: u64) -> u64
 pub(crate) fn any_id(edition: Edition) -> bool
     ensures { result ≡ any_id edition }
 {
-    match edition {
-        Edition::Iso => false,
-        Edition::Sae => true,
-    }
+    edition == Edition::Sae
 }
 
 // Whether a number is a group count.
@@ -50,6 +47,6 @@ pub(crate) fn is_count(edition: Edition, count: usize) -> bool
 {
     match edition {
         Edition::Iso => count == GROUPS,
-        Edition::Sae => (1 <= count) & (count <= GROUPS),
+        Edition::Sae => 1 <= count && count <= GROUPS,
     }
 }

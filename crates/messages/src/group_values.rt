@@ -9,10 +9,11 @@ use crate::{GROUPS, GroupValues};
 use octets::octet_at;
 
 // The group count in one octet.
+#[tactic(auto, using(octets::proofs::LoopLaws::value_one))]
 pub(crate) fn count_at(s: &[u8], at: usize) -> usize
     ensures { result ≡ value s.now at 1 }
 {
-    octet_at(s, at) as usize
+    usize::from(octet_at(s, at))
 }
 
 // Copies the values of n groups of src from `from` into out from `at`: those of all groups by a number that the compiler knows, so that no octet is tested.
@@ -27,6 +28,7 @@ fn copy_groups(src: &[u8], from: usize, n: usize, out: &mut [u8], at: usize)
 }
 
 // The n group values from `at`, zeros behind them.
+#[tactic(auto, using(crate::proofs::FrameLaws::groups_copied))]
 pub(crate) fn groups_at(s: &[u8], at: usize, n: usize) -> GroupValues
     requires { (n ≤ group_count) × (at + n ≤ length s.now) }
     ensures { result ≡ filled s.now at n (group_count - n) }

@@ -13,10 +13,11 @@ use octets::is_zero;
 pub(crate) fn is_free(s: &[u8], at: usize, any: bool) -> bool
     ensures { result ≡ zeros any s.now at id_octets }
 {
-    if any { true } else { is_zero(s, at, ID_OCTETS) }
+    any || is_zero(s, at, ID_OCTETS)
 }
 
 // The identifier from `at`.
+#[tactic(auto, using(crate::proofs::FrameLaws::id_copied))]
 pub(crate) fn id_at(s: &[u8], at: usize) -> IdOctets
     requires { at + id_octets ≤ length s.now }
     ensures { result ≡ part s.now at id_octets }
@@ -31,9 +32,10 @@ pub(crate) fn ids_at(s: &[u8], a: usize, b: usize) -> Ids
     requires { (a + id_octets ≤ length s.now) × (b + id_octets ≤ length s.now) }
     ensures { (result.first ≡ part s.now a id_octets) × (result.second ≡ part s.now b id_octets) }
 {
-    let first = id_at(s, a);
-    let second = id_at(s, b);
-    Ids { first, second }
+    Ids {
+        first: id_at(s, a),
+        second: id_at(s, b),
+    }
 }
 
 // One identifier, and zeros in the place of the second.
@@ -41,9 +43,10 @@ pub(crate) fn one_id_at(s: &[u8], a: usize) -> Ids
     requires { a + id_octets ≤ length s.now }
     ensures { (result.first ≡ part s.now a id_octets) × (result.second ≡ no_id) }
 {
-    let first = id_at(s, a);
-    let second = no_id();
-    Ids { first, second }
+    Ids {
+        first: id_at(s, a),
+        second: no_id(),
+    }
 }
 
 // Writes an identifier from `at`.

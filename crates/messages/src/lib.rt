@@ -14,51 +14,51 @@ ghost use Rattle.octets.specs.Octets.{splice};
 ghost use Rattle.messages.specs.Table.{is_unicast, is_receiver, timer_limit};
 ghost use Rattle.messages.specs.Reading.{read_rules, beside_of, no_groups, no_id};
 ghost use Rattle.messages.specs.Writing.{write_rules, length_of, octets_of};
-ghost use Rattle.messages.specs.Answers.{number_of, message_of, besides, answer_of, written_of};
+ghost use Rattle.messages.specs.Answers.{number_of, message_of, besides, answer_of, checked_of};
 
-use kinds::KindAnswer;
+use writer::Outgoing;
 
 // A charging station's address: its six octets as a number, first octet most significant.
-#[derive(Clone, Copy)]
+#[derive(Clone, Copy, PartialEq, Eq)]
 pub struct StationAddress(pub u64);
 
 // A car's address.
-#[derive(Clone, Copy)]
+#[derive(Clone, Copy, PartialEq, Eq)]
 pub struct CarAddress(pub u64);
 
 // The address of the modem that a station is driven through.
-#[derive(Clone, Copy)]
+#[derive(Clone, Copy, PartialEq, Eq)]
 pub struct ModemAddress(pub u64);
 
 // Whom a validate request goes to: one station, or all.
-#[derive(Clone, Copy)]
+#[derive(Clone, Copy, PartialEq, Eq)]
 pub struct Receiver(pub u64);
 
 // The RunID of one matching: its eight octets as a number, first octet most significant.
-#[derive(Clone, Copy)]
+#[derive(Clone, Copy, PartialEq, Eq)]
 pub struct RunId(pub u64);
 
 // The network ID: its seven octets as a number, low octet first; below 2^54 where it is a valid one.
-#[derive(Clone, Copy)]
+#[derive(Clone, Copy, PartialEq, Eq)]
 pub struct Nid(pub u64);
 
 // The network membership key: its first and its last eight octets.
-#[derive(Clone, Copy)]
+#[derive(Clone, Copy, PartialEq, Eq)]
 pub struct Nmk(pub u64, pub u64);
 
 // The random value of M-SOUND: its first and its last eight octets.
-#[derive(Clone, Copy)]
+#[derive(Clone, Copy, PartialEq, Eq)]
 pub struct Random(pub u64, pub u64);
 
 // Whose tables hold: ISO 15118-3 or SAE J2931/4.
-#[derive(Clone, Copy)]
+#[derive(Clone, Copy, PartialEq, Eq)]
 pub enum Edition {
     Iso,
     Sae,
 }
 
-// NUM_SOUNDS and Time_Out of a try, as their two octets stand.
-#[derive(Clone, Copy)]
+// NUM_SOUNDS and Time_Out of a try, as their two octets stand. A number and no enum: any may be given to `write`, which refuses another with 6.
+#[derive(Clone, Copy, PartialEq, Eq)]
 pub struct Attempt(pub u64);
 
 // How many group values ATTEN_PROFILE has at most.
@@ -82,9 +82,9 @@ pub struct Ids {
 }
 
 // Why a call gives no answer, in the order of the numbers from 1 on.
-#[derive(Clone, Copy)]
+#[derive(Clone, Copy, PartialEq, Eq)]
 pub enum Refusal {
-    TooShort,
+    TooShort = 1,
     BadHead,
     UnknownType,
     TooLong,
@@ -108,6 +108,15 @@ pub enum Refusal {
     OtherTry,
     OtherGroupCount,
     OtherCarrierCount,
+}
+
+// A refusal's number, from 1 on.
+impl From<Refusal> for u32 {
+    ghost from_gives = { λ refusal number. number ≡ number_of refusal };
+
+    fn from(refusal: Refusal) -> u32 {
+        refusal as u32
+    }
 }
 
 // A message without its group values and its identifiers.
@@ -177,20 +186,6 @@ pub enum Message {
     },
 }
 
-// What reading gives.
-#[derive(Clone, Copy)]
-pub enum ReadAnswer {
-    Read(Message),
-    Refused(Refusal),
-}
-
-// What writing gives: how many octets the frame takes.
-#[derive(Clone, Copy)]
-pub enum Written {
-    Octets(usize),
-    Refused(Refusal),
-}
-
 // The broadcast address: six FF.
 pub const BROADCAST: u64 = 0xFFFFFFFFFFFF;
 
@@ -209,39 +204,7 @@ pub const FIRST_ATTEMPT: u64 = 0x0802;
 // The SAE edition's later tries: sixteen sounds, 1,000 ms.
 pub const LATER_ATTEMPT: u64 = 0x100A;
 
-// A refusal's number, from 1 on.
-pub fn refusal_number(refusal: Refusal) -> u32
-    ensures { result ≡ number_of refusal }
-{
-    match refusal {
-        Refusal::TooShort => 1,
-        Refusal::BadHead => 2,
-        Refusal::UnknownType => 3,
-        Refusal::TooLong => 4,
-        Refusal::BadAddress => 5,
-        Refusal::BadOctet => 6,
-        Refusal::NotForUs => 7,
-        Refusal::WrongState => 8,
-        Refusal::AdmissionClosed => 9,
-        Refusal::RecordsFull => 10,
-        Refusal::NoRecord => 11,
-        Refusal::WrongPhase => 12,
-        Refusal::BadSoundCount => 13,
-        Refusal::TickGap => 14,
-        Refusal::OutputTooShort => 15,
-        Refusal::BadConfiguration => 16,
-        Refusal::OnlyForCars => 17,
-        Refusal::ReportsFull => 18,
-        Refusal::OnlyForStations => 19,
-        Refusal::NoSounds => 20,
-        Refusal::EmptyRun => 21,
-        Refusal::OtherTry => 22,
-        Refusal::OtherGroupCount => 23,
-        Refusal::OtherCarrierCount => 24,
-    }
-}
-
-// Whether an address is a unicast one: 48 bits, not all zero, an even first octet.
+// Whether an address is a unicast one: 48 bits, not all zero, an even first octet. With no early exit: a test mostly passes.
 pub fn is_unicast(address: u64) -> bool
     ensures { result ≡ is_unicast address }
 {
@@ -252,7 +215,7 @@ pub fn is_unicast(address: u64) -> bool
 pub(crate) fn is_receiver(address: u64) -> bool
     ensures { result ≡ is_receiver address }
 {
-    (address == BROADCAST) | is_unicast(address)
+    address == BROADCAST || is_unicast(address)
 }
 
 // The first number that is no timer of a validate request to an address.
@@ -263,6 +226,7 @@ pub(crate) fn timer_limit(address: u64) -> u64
 }
 
 // Zeros in the place of group values.
+#[tactic(auto, unfolding(crate::specs::Reading::no_groups))]
 pub fn no_groups() -> GroupValues
     ensures { result ≡ no_groups }
 {
@@ -270,6 +234,7 @@ pub fn no_groups() -> GroupValues
 }
 
 // Zeros in the place of an identifier.
+#[tactic(auto, unfolding(crate::specs::Reading::no_id))]
 pub fn no_id() -> IdOctets
     ensures { result ≡ no_id }
 {
@@ -277,38 +242,32 @@ pub fn no_id() -> IdOctets
 }
 
 // Reads a frame in an edition: any octets, of any length.
-pub fn read(edition: Edition, frame: &[u8]) -> ReadAnswer
+#[tactic(auto, using(crate::proofs::FrameLaws::refusal_reads))]
+pub fn read(edition: Edition, frame: &[u8]) -> Result<Message, Refusal>
     ensures { answer_of edition result (beside_of (read_rules edition frame.now)) ≡ read_rules edition frame.now }
 {
-    let found = kinds::kind_in(edition, frame);
-    match found {
-        KindAnswer::Found(kind, count) => reader::body(edition, frame, kind, count),
-        KindAnswer::Refused(refusal) => ReadAnswer::Refused(refusal),
-    }
+    let form = kinds::form_in(edition, frame)?;
+    reader::body(edition, frame, form)
 }
 
 // The group values of the message that a frame reads as; zeros past its count, and where it has none or cannot be read.
 pub fn groups(edition: Edition, frame: &[u8]) -> GroupValues
     ensures { result ≡ (beside_of (read_rules edition frame.now)).groups }
 {
-    let answer = read(edition, frame);
-    let ReadAnswer::Read(message) = answer else {
+    let Ok(message) = read(edition, frame) else {
         return no_groups();
     };
     match message {
-        Message::AttenCharInd {
-            station: _,
-            car: _,
-            run: _,
-            sounds: _,
+        Message::AttenCharInd { count, .. } => group_values::groups_at(
+            frame,
+            heads::HEAD + 52,
             count,
-        } => group_values::groups_at(frame, heads::HEAD + 52, count),
-        Message::AttenProfileInd {
-            modem: _,
-            station: _,
-            car: _,
+        ),
+        Message::AttenProfileInd { count, .. } => group_values::groups_at(
+            frame,
+            heads::HEAD + 8,
             count,
-        } => group_values::groups_at(frame, heads::HEAD + 8, count),
+        ),
         _ => no_groups(),
     }
 }
@@ -317,50 +276,31 @@ pub fn groups(edition: Edition, frame: &[u8]) -> GroupValues
 pub fn no_ids() -> Ids
     ensures { (result.first ≡ no_id) × (result.second ≡ no_id) }
 {
-    let first = no_id();
-    let second = no_id();
-    Ids { first, second }
+    Ids {
+        first: no_id(),
+        second: no_id(),
+    }
 }
 
 // The identifiers of the message that a frame reads as; zeros where it has none or cannot be read.
 pub fn identifiers(edition: Edition, frame: &[u8]) -> Ids
     ensures { (result.first ≡ (beside_of (read_rules edition frame.now)).first) × (result.second ≡ (beside_of (read_rules edition frame.now)).second) }
 {
-    let answer = read(edition, frame);
-    let ReadAnswer::Read(message) = answer else {
+    let Ok(message) = read(edition, frame) else {
         return no_ids();
     };
     match message {
-        Message::AttenCharInd {
-            station: _,
-            car: _,
-            run: _,
-            sounds: _,
-            count: _,
-        } => id_octets::ids_at(frame, heads::HEAD + 16, heads::HEAD + 33),
-        Message::AttenCharRsp {
-            car: _,
-            station: _,
-            run: _,
-        } => id_octets::ids_at(frame, heads::HEAD + 16, heads::HEAD + 33),
-        Message::MnbcSoundInd {
-            car: _,
-            count: _,
-            run: _,
-            random: _,
-        } => id_octets::one_id_at(frame, heads::HEAD + 2),
-        Message::SlacMatchReq {
-            car: _,
-            station: _,
-            run: _,
-        } => id_octets::ids_at(frame, heads::HEAD + 4, heads::HEAD + 27),
-        Message::SlacMatchCnf {
-            station: _,
-            car: _,
-            run: _,
-            nid: _,
-            nmk: _,
-        } => id_octets::ids_at(frame, heads::HEAD + 4, heads::HEAD + 27),
+        Message::AttenCharInd { .. } | Message::AttenCharRsp { .. } => id_octets::ids_at(
+            frame,
+            heads::HEAD + 16,
+            heads::HEAD + 33,
+        ),
+        Message::MnbcSoundInd { .. } => id_octets::one_id_at(frame, heads::HEAD + 2),
+        Message::SlacMatchReq { .. } | Message::SlacMatchCnf { .. } => id_octets::ids_at(
+            frame,
+            heads::HEAD + 4,
+            heads::HEAD + 27,
+        ),
         _ => no_ids(),
     }
 }
@@ -372,26 +312,21 @@ pub fn write(
     groups: GroupValues,
     ids: Ids,
     out: &mut [u8],
-) -> Written
-    ensures result_value { written_of result ≡ length_of (write_rules (message_of edition message (besides groups ids)) (length out.old)) }
+) -> Result<usize, Refusal>
+    ensures result_value { checked_of result ≡ length_of (write_rules (message_of edition message (besides groups ids)) (length out.old)) }
     ensures out_after { out.new ≡ splice 0 (octets_of (write_rules (message_of edition message (besides groups ids)) (length out.old))) out.old }
 {
-    let head = writer::head_of(edition, message, groups, ids);
-    if head.addressed {
-        if head.limited {
-            let kind = head.kind;
-            let count = head.count;
-            let written = kinds::written_size(kind, count);
-            if written <= out.len() {
-                writer::put_frame(out, head, edition, message, groups, ids);
-                Written::Octets(written)
-            } else {
-                Written::Refused(Refusal::OutputTooShort)
-            }
-        } else {
-            Written::Refused(Refusal::BadOctet)
-        }
-    } else {
-        Written::Refused(Refusal::BadAddress)
+    let outgoing = Outgoing {
+        edition,
+        message,
+        groups,
+        ids,
+    };
+    let head = outgoing.head()?;
+    let written = head.form.written_size();
+    if out.len() < written {
+        return Err(Refusal::OutputTooShort);
     }
+    outgoing.put_frame(head, out);
+    Ok(written)
 }

@@ -1,2 +1,3 @@
 pub mod OctetLaws
 pub mod LoopLaws
+pub mod ArrayLaws

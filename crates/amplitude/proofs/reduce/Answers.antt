@@ -5,34 +5,34 @@ use Rattle.amplitude.proofs.ReduceLaws.{no_map, counts_differ, bad_level, no_roo
 use Rattle.amplitude.proofs.reduce.Goals as goal
 
 pub put_reductions-requires : goal.put_reductions-requires
-put_reductions-requires c = record { values_value = (map_halves c.args.values.now (sym c.is_map.ensures ∙ c.if-is_map.true), sym c.are_levels.ensures ∙ c.if-are_levels.true); values_len = (c.if-n-levels.true, c.if-n-out.true) }
+put_reductions-requires c = record { values_value = (map_halves c.args.values.now (sym c.is_map.ensures ∙ c.if-not-is_map.false), sym c.are_levels.ensures ∙ c.if-not-are_levels.false); values_len = (c.if-n-levels.false, c.if-out-n.false) }
 
-pub returns-then-n-out : goal.returns-then-n-out
-returns-then-n-out c =
+pub returns : goal.returns
+returns c =
     let a = c.args in
-    let r = reduced a.values.now a.levels.now a.out.now (sym c.is_map.ensures ∙ c.if-is_map.true) c.if-n-levels.true (sym c.are_levels.ensures ∙ c.if-are_levels.true) c.if-n-out.true _ c.put_reductions.ensures in
+    let r = reduced a.values.now a.levels.now a.out.now (sym c.is_map.ensures ∙ c.if-not-is_map.false) c.if-n-levels.false (sym c.are_levels.ensures ∙ c.if-not-are_levels.false) c.if-out-n.false _ c.put_reductions.ensures in
     record { result_value = r.0; out_after = r.1 }
 
-pub returns-else-n-out : goal.returns-else-n-out
-returns-else-n-out c =
+pub returns-then-out-n : goal.returns-then-out-n
+returns-then-out-n c =
     let a = c.args in
-    let r = no_room a.values.now a.levels.now a.out.now (sym c.is_map.ensures ∙ c.if-is_map.true) c.if-n-levels.true (sym c.are_levels.ensures ∙ c.if-are_levels.true) c.if-n-out.false in
+    let r = no_room a.values.now a.levels.now a.out.now (sym c.is_map.ensures ∙ c.if-not-is_map.false) c.if-n-levels.false (sym c.are_levels.ensures ∙ c.if-not-are_levels.false) c.if-out-n.true in
     record { result_value = r.0; out_after = r.1 }
 
-pub returns-else-are_levels : goal.returns-else-are_levels
-returns-else-are_levels c =
+pub returns-then-not-are_levels : goal.returns-then-not-are_levels
+returns-then-not-are_levels c =
     let a = c.args in
-    let r = bad_level a.values.now a.levels.now a.out.now (sym c.is_map.ensures ∙ c.if-is_map.true) c.if-n-levels.true (sym c.are_levels.ensures ∙ c.if-are_levels.false) in
+    let r = bad_level a.values.now a.levels.now a.out.now (sym c.is_map.ensures ∙ c.if-not-is_map.false) c.if-n-levels.false (sym c.are_levels.ensures ∙ c.if-not-are_levels.true) in
     record { result_value = r.0; out_after = r.1 }
 
-pub returns-else-n-levels : goal.returns-else-n-levels
-returns-else-n-levels c =
+pub returns-then-n-levels : goal.returns-then-n-levels
+returns-then-n-levels c =
     let a = c.args in
-    let r = counts_differ a.values.now a.levels.now a.out.now (sym c.is_map.ensures ∙ c.if-is_map.true) c.if-n-levels.false in
+    let r = counts_differ a.values.now a.levels.now a.out.now (sym c.is_map.ensures ∙ c.if-not-is_map.false) c.if-n-levels.true in
     record { result_value = r.0; out_after = r.1 }
 
-pub returns-else-is_map : goal.returns-else-is_map
-returns-else-is_map c =
+pub returns-then-not-is_map : goal.returns-then-not-is_map
+returns-then-not-is_map c =
     let a = c.args in
-    let r = no_map a.values.now a.levels.now a.out.now (sym c.is_map.ensures ∙ c.if-is_map.false) in
+    let r = no_map a.values.now a.levels.now a.out.now (sym c.is_map.ensures ∙ c.if-not-is_map.true) in
     record { result_value = r.0; out_after = r.1 }

@@ -1,71 +1,49 @@
--- By the three tests; then the frame.
+-- By the two tests of the head, and the room; then the frame.
+use Rattle.std.proofs.lemmas.Result.{err_from_is_err_and}
 use Prim.Native.Nat.{◌≤◌}
 use borrow.Author.Rules.{rules}
 use lib.ListN.{length}
-use mathlib.Core.Path.{◌≡◌, sym, ap, ap₂, ◌∙◌}
+use mathlib.Core.Path.{◌≡◌, ap, ap₂, ◌∙◌}
 use native.Mathlib.Omega.{arith}
-use Rattle.messages.proofs.WriteLaws.{Whole, unaddressed, unlimited, too_short, full_message, limited_most, writes, written}
+use Rattle.messages.proofs.WriteLaws.{refused, too_short, full_message, limited_most, writes, written}
 use Rattle.messages.specs.Answers.{message_of, besides}
 use Rattle.messages.specs.Reading.{yes}
 use Rattle.messages.specs.Table.{written_size}
 use Rattle.messages.specs.Writing.{length_in}
 use Rattle.messages.proofs.write.Goals as goal
 
--- the arrays are as long as their types say
-whole : (c : goal.After-slice_known-then-written-out-1) → Whole (besides c.args.groups c.args.ids)
-whole c = record { groups = search rules; first = search rules; second = search rules }
-
 pub written_size-written-requires : goal.written_size-written-requires
 written_size-written-requires c =
-    let m = message_of c.args.edition c.args.message (besides c.args.groups c.args.ids) in
-    let h = c.head_of-head.ensures in
-    let a = sym h.addressed ∙ c.if-head.true in
-    let b = sym (h.limited a) ∙ c.if-head-2.true in
-    omega (arith, h.count, limited_most m b)
+    let j = c.in_ok-head.ensures in
+    omega (arith, j.heads.count, limited_most (message_of c.args.edition c.args.message (besides c.args.groups c.args.ids)) j.limited)
 
 pub put_frame-requires : goal.put_frame-requires
 put_frame-requires c =
     let m = message_of c.args.edition c.args.message (besides c.args.groups c.args.ids) in
-    let h = c.head_of-head.ensures in
-    let a = sym h.addressed ∙ c.if-head.true in
-    let b = sym (h.limited a) ∙ c.if-head-2.true in
-    let n : c.written_size-written.result ≡ length_in m = c.written_size-written.ensures ∙ ap₂ written_size h.kind h.count in
-    (h, record { most = limited_most m b; frame = omega (arith, n, c.if-written-out.true) })
+    let j = c.in_ok-head.ensures in
+    let n : c.written_size-written.result ≡ length_in m = c.written_size-written.ensures ∙ ap₂ written_size j.heads.kind j.heads.count in
+    (j.heads, record { most = limited_most m j.limited; frame = omega (arith, n, c.if-out-written.false) })
 
-pub returns-then-written-out : goal.returns-then-written-out
-returns-then-written-out c =
+pub returns-in_err-head : goal.returns-in_err-head
+returns-in_err-head c =
+    let p = err_from_is_err_and c.from_residual.result c.from_residual.ensures.1 in
+    let r = refused (message_of c.args.edition c.args.message (besides c.args.groups c.args.ids)) c.args.out.now _ c.in_err-head.ensures in
+    rw (p.1, p.2) (record { result_value = r.0; out_after = r.1 })
+
+pub returns-then-out-written : goal.returns-then-out-written
+returns-then-out-written c =
     let m = message_of c.args.edition c.args.message (besides c.args.groups c.args.ids) in
-    let h = c.head_of-head.ensures in
-    let a = sym h.addressed ∙ c.if-head.true in
-    let b = sym (h.limited a) ∙ c.if-head-2.true in
-    let n : c.written_size-written.result ≡ length_in m = c.written_size-written.ensures ∙ ap₂ written_size h.kind h.count in
-    let room : length_in m ≤ length c.args.out.now = omega (arith, n, c.if-written-out.true) in
-    let full = full_message c.args.edition c.args.message (besides c.args.groups c.args.ids) (whole c) (limited_most m b) in
-    let w = written m full c.args.out.now (writes m c.args.out.now a b room) room in
+    let j = c.in_ok-head.ensures in
+    let n : c.written_size-written.result ≡ length_in m = c.written_size-written.ensures ∙ ap₂ written_size j.heads.kind j.heads.count in
+    let r = too_short m c.args.out.now j.addressed j.limited (omega (arith, n, c.if-out-written.true)) in
+    record { result_value = r.0; out_after = r.1 }
+
+pub returns : goal.returns
+returns c =
+    let m = message_of c.args.edition c.args.message (besides c.args.groups c.args.ids) in
+    let j = c.in_ok-head.ensures in
+    let n : c.written_size-written.result ≡ length_in m = c.written_size-written.ensures ∙ ap₂ written_size j.heads.kind j.heads.count in
+    let room : length_in m ≤ length c.args.out.now = omega (arith, n, c.if-out-written.false) in
+    let full = full_message c.args.edition c.args.message (besides c.args.groups c.args.ids) (search rules) (limited_most m j.limited) in
+    let w = written m full c.args.out.now (writes m c.args.out.now j.addressed j.limited room) room in
     record { result_value = ap yes n ∙ w.0; out_after = c.put_frame.ensures ∙ w.1 }
-
-pub returns-else-written-out : goal.returns-else-written-out
-returns-else-written-out c =
-    let m = message_of c.args.edition c.args.message (besides c.args.groups c.args.ids) in
-    let h = c.head_of-head.ensures in
-    let a = sym h.addressed ∙ c.if-head.true in
-    let b = sym (h.limited a) ∙ c.if-head-2.true in
-    let n : c.written_size-written.result ≡ length_in m = c.written_size-written.ensures ∙ ap₂ written_size h.kind h.count in
-    let r = too_short m c.args.out.now a b (omega (arith, n, c.if-written-out.false)) in
-    record { result_value = r.0; out_after = r.1 }
-
-pub returns-else-head-2 : goal.returns-else-head-2
-returns-else-head-2 c =
-    let m = message_of c.args.edition c.args.message (besides c.args.groups c.args.ids) in
-    let h = c.head_of-head.ensures in
-    let a = sym h.addressed ∙ c.if-head.true in
-    let b = sym (h.limited a) ∙ c.if-head-2.false in
-    let r = unlimited m c.args.out.now a b in
-    record { result_value = r.0; out_after = r.1 }
-
-pub returns-else-head : goal.returns-else-head
-returns-else-head c =
-    let m = message_of c.args.edition c.args.message (besides c.args.groups c.args.ids) in
-    let h = c.head_of-head.ensures in
-    let r = unaddressed m c.args.out.now (sym h.addressed ∙ c.if-head.false) in
-    record { result_value = r.0; out_after = r.1 }

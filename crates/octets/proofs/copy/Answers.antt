@@ -1,28 +1,26 @@
--- `octets::copy` meets its contract: what is copied so far.
-use Prim.Native.Nat.{ℕ, ◌+◌, ◌-◌, min}
-use borrow.Author.Rules.{rules}
-use lib.ListN.{length, get_or, set, length-set}
-use lib.Seq.{sets}
+-- `octets::copy` meets its contract: the octets that have room are all that is stored.
+use Prim.Native.Nat.{ℕ, ◌+◌, ◌-◌}
+use borrow.Rule.Slice.PartMut.{put_mid}
+use lib.ListN.{length, take}
+use lib.Seq.{sets, length-take-le}
 use mathlib.Core.List.{List}
 use mathlib.Core.Path.{◌≡◌, ap, ◌∙◌}
 use native.Mathlib.Omega.{arith}
-use Rattle.octets.specs.Octets.{part}
-use Rattle.octets.proofs.LoopLaws.{copy_more, part_within}
+use Rattle.octets.proofs.LoopLaws.{sets_within, sets_put}
 use Rattle.octets.proofs.copy.Goals as goal
 
-pub loop-i-preserved : goal.loop-i-preserved
-loop-i-preserved c =
+pub returns-then-count-gt0 : goal.returns-then-count-gt0
+returns-then-count-gt0 c =
     let a = c.args in
-    let l = c.loop-i in
-    let put = c.put_behind.ensures in (
-      search rules,
-      ap length put ∙ length-set l.out (a.at + l.i) (get_or a.src.now (a.from + l.i) 0) ∙ l.invariant.1,
-      put ∙ ap (λ (o : List ℕ). set o (a.at + l.i) (get_or a.src.now (a.from + l.i) 0)) l.invariant.2 ∙ copy_more a.src.now a.out.now a.from a.at l.i (omega (arith, c.run_length-count.ensures)),
-    )
+    let octets : List ℕ = c.part_of-octets.result.now in
+    let n : ℕ = c.run_length-count.result in
+    let long : length (take n octets) ≡ a.at + n - a.at = length-take-le n octets (omega arith) ∙ omega arith in
+    ap (put_mid a.at (a.at + n - a.at) a.out.now) c.copy_from_slice.ensures.after
+    ∙ sets_put (take n octets) a.out.now a.at (a.at + n - a.at) (omega arith) long
+    ∙ sets_within octets a.out.now a.at n (omega arith)
+    ∙ ap (λ (l : List ℕ). sets a.out.now a.at l) c.part_of-octets.ensures
 
-pub returns : goal.returns
-returns c =
+pub returns-else-count-gt0 : goal.returns-else-count-gt0
+returns-else-count-gt0 c =
     let a = c.args in
-    let l = c.loop-i in
-    let e : l.i ≡ min a.n (length a.src.now - a.from) = omega (arith, c.run_length-count.ensures) in
-    l.invariant.2 ∙ ap (λ (w : List ℕ). sets a.out.now a.at w) (ap (part a.src.now a.from) e ∙ part_within a.src.now a.from a.n)
+    sets_within c.part_of-octets.result.now a.out.now a.at 0 (omega arith) ∙ ap (λ (l : List ℕ). sets a.out.now a.at l) c.part_of-octets.ensures

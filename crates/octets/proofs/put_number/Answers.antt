@@ -16,14 +16,12 @@ loop-i-preserved c =
     let put = c.put_behind.ensures in
     let j : ℕ = l.i - 1 in
     let e : j + 1 ≡ l.i = omega arith in (
-      omega arith,
-      ap length put ∙ length-set l.out (a.at + j) (l.w % 256) ∙ l.invariant.1,
-      ap (λ (o : List ℕ). sets o a.at (bytes j (l.w / 256))) put ∙ put_more l.out a.at j l.w ∙ ap (λ (k : ℕ). sets l.out a.at (bytes k l.w)) e ∙ l.invariant.2,
+      ap length put ∙ length-set l.out (a.at + j) (l.w % 256) ∙ l.invariant.0,
+      ap (λ (o : List ℕ). sets o a.at (bytes j (l.w / 256))) put ∙ put_more l.out a.at j l.w ∙ ap (λ (k : ℕ). sets l.out a.at (bytes k l.w)) e ∙ l.invariant.1,
     )
 
 pub returns : goal.returns
 returns c =
-    let a = c.args in
     let l = c.loop-i in
     let e : 0 ≡ l.i = omega arith in
-    sym (bytes_none l.out a.at l.w) ∙ ap (λ (k : ℕ). sets l.out a.at (bytes k l.w)) e ∙ l.invariant.2
+    sym (bytes_none l.out c.args.at l.w) ∙ ap (λ (k : ℕ). sets l.out c.args.at (bytes k l.w)) e ∙ l.invariant.1

@@ -1,11 +1,9 @@
--- A level above the limit and one that is not.
-use Rattle.amplitude.proofs.LevelLaws.{lowered_by, lowered_not}
+-- How far the level lies below 0 is taken from how far the limit does.
+use Rattle.amplitude.proofs.LevelLaws.{lowered_by}
+use mathlib.Core.Path.{◌∙◌}
 use Rattle.amplitude.proofs.levels.lowered.Goals as goal
 
-pub returns-then-own-limit : goal.returns-then-own-limit
-returns-then-own-limit c =
-    lowered_by c.args.value c.args.level c.depth-own.result c.ranges.level.sfits c.requires.1 c.depth-own.ensures
-
-pub returns-else-own-limit : goal.returns-else-own-limit
-returns-else-own-limit c =
-    lowered_not c.args.value c.args.level c.depth-own.result c.ranges.level.sfits c.requires.1 c.depth-own.ensures c.if-own-limit.false
+pub returns : goal.returns
+returns c =
+    c.saturating_sub.ensures
+    ∙ lowered_by c.args.value c.args.level c.unsigned_abs.result c.from.result c.ranges.level.sfits c.requires.1 c.unsigned_abs.ensures.value c.from.ensures

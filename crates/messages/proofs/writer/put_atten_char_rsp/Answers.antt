@@ -1,20 +1,10 @@
 -- The fields one after another.
 use borrow.Author.Rules.{rules}
-use lib.ListN.{length}
-use mathlib.Core.Path.{◌≡◌}
 use Rattle.messages.proofs.WriteLaws.{store_encode}
-use Rattle.messages.specs.Table.{id_octets}
 use Rattle.messages.specs.Table.{payload, atten_char_rsp}
 use Rattle.messages.proofs.writer.put_atten_char_rsp.Goals as goal
-
--- the identifiers are as long as the type says
-first-whole : (c : goal.After-slice_known-7-1) → length c.args.ids.first ≡ id_octets
-first-whole c = search rules
-
-second-whole : (c : goal.After-slice_known-7-1) → length c.args.ids.second ≡ id_octets
-second-whole c = search rules
 
 pub returns : goal.returns
 returns c =
     let a = c.args in
-    λ e d. rw (c.put_number-4.ensures, c.put_id-2.ensures, c.put_id.ensures, c.put_number-3.ensures, c.put_number-2.ensures, c.put_number.ensures) (store_encode (payload e atten_char_rsp 0 d a.car) (a.run, (a.ids.first, (a.ids.second, tt))) 0 a.out.now (first-whole c, (second-whole c, tt)))
+    λ e d. rw (c.put_number-4.ensures, c.put_id-2.ensures, c.put_id.ensures, c.put_number-3.ensures, c.put_number-2.ensures, c.put_number.ensures) (store_encode (payload e atten_char_rsp 0 d a.car) (a.run, (a.ids.first, (a.ids.second, tt))) 0 a.out.now (search rules, (search rules, tt)))

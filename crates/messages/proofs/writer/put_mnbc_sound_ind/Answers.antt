@@ -1,16 +1,10 @@
 -- The fields one after another.
 use borrow.Author.Rules.{rules}
 use Rattle.messages.proofs.WriteLaws.{store_encode}
-use lib.ListN.{length}
-use mathlib.Core.Path.{◌≡◌}
-use Rattle.messages.specs.Table.{id_octets, payload, mnbc_sound_ind}
+use Rattle.messages.specs.Table.{payload, mnbc_sound_ind}
 use Rattle.messages.proofs.writer.put_mnbc_sound_ind.Goals as goal
-
--- the identifier is as long as the type says
-first-whole : (c : goal.After-slice_known-8-1) → length c.args.first ≡ id_octets
-first-whole c = search rules
 
 pub returns : goal.returns
 returns c =
     let a = c.args in
-    λ e d f. rw (c.put_number-6.ensures, c.put_number-5.ensures, c.put_number-4.ensures, c.put_number-3.ensures, c.put_number-2.ensures, c.put_id.ensures, c.put_number.ensures) (store_encode (payload e mnbc_sound_ind 0 d f) (a.first, (a.count, (a.run, (a.random.0, (a.random.1, tt))))) 0 a.out.now (first-whole c, tt))
+    λ e d f. rw (c.put_number-6.ensures, c.put_number-5.ensures, c.put_number-4.ensures, c.put_number-3.ensures, c.put_number-2.ensures, c.from.ensures, c.put_id.ensures, c.put_number.ensures) (store_encode (payload e mnbc_sound_ind 0 d f) (a.first, (a.count, (a.run, (a.random.0, (a.random.1, tt))))) 0 a.out.now (search rules, tt))

@@ -6,4 +6,4 @@ use Rattle.messages.proofs.writer.put_validate_cnf.Goals as goal
 pub returns : goal.returns
 returns c =
     let a = c.args in
-    λ e d f. rw (c.put_low_number.ensures, c.put_number-2.ensures, c.put_number.ensures) (store_encode (payload e validate_cnf 0 d f) (a.toggles, (a.res, tt)) 0 a.out.now tt)
+    λ e d f. rw (c.put_low_number.ensures, c.from-2.ensures, c.put_number-2.ensures, c.from.ensures, c.put_number.ensures) (store_encode (payload e validate_cnf 0 d f) (a.toggles, (a.res, tt)) 0 a.out.now tt)
