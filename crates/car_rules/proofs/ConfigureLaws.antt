@@ -5,10 +5,11 @@ use mathlib.Core.Bool.{Bool, true, false}
 use mathlib.Core.List.{List}
 use Rattle.messages.specs.declared.CarAddress.{CarAddress}
 use Rattle.messages.specs.declared.Refusal.TheVariants.{BadConfiguration}
-use Rattle.ends.specs.declared.Answer.{Answer}
-use Rattle.ends.specs.declared.Answer.TheVariants.{Refused, Done}
+use Rattle.std.specs.Prelude.{Result, Ok, Err}
+use Rattle.messages.specs.declared.Refusal.{Refusal}
+use Rattle.ends.specs.declared.Done.{Done}
 use Rattle.ends.specs.declared.Indication.TheVariants.{Nothing}
-use Rattle.ends.specs.Answers.{answer_of, summary}
+use Rattle.ends.specs.Answers.{answer_of, silently, summary}
 use Rattle.ends.specs.Lists.{joins}
 use Rattle.car_rules.specs.declared.Car.{Car}
 use Rattle.car_rules.specs.declared.Report.{Report}
@@ -35,12 +36,12 @@ module _ (a : CarAddress) (r : ℕ) (g : Bool) (rs : List Report) (e : g ≡ is_
   unfolding configured
   is_configured = rw (e, n)
 
-  promised : (x : Answer) → answer_of x ≡ summary (configuring a r) → Configures a r (record { car = made; answer = x })
+  promised : (x : Result Done Refusal) → answer_of x ≡ summary (configuring a r) → Configures a r (record { car = made; answer = x })
   promised x h = record { car = is_configured; answer = h; kept = subst Invariant (sym is_configured) (configured_keeps a r) }
 
-  pub promised_good : g ≡ true → Configures a r (record { car = made; answer = Done 0 0 Nothing })
+  pub promised_good : g ≡ true → Configures a r (record { car = made; answer = silently Nothing })
   unfolding joins
-  promised_good t = promised (Done 0 0 Nothing) (rw (sym e ∙ t))
+  promised_good t = promised (silently Nothing) (rw (sym e ∙ t))
 
-  pub promised_bad : g ≡ false → Configures a r (record { car = made; answer = Refused BadConfiguration })
-  promised_bad t = promised (Refused BadConfiguration) (rw (sym e ∙ t))
+  pub promised_bad : g ≡ false → Configures a r (record { car = made; answer = Err BadConfiguration })
+  promised_bad t = promised (Err BadConfiguration) (rw (sym e ∙ t))

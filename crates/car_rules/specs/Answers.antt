@@ -1,24 +1,14 @@
 -- Document 01's reading of the answers that the code gives, and what each public function promises.
 use Rattle.std.specs.Prelude.{ℕ, ◌≡◌, List}
 use Rattle.messages.specs.declared.CarAddress.{CarAddress}
-use Rattle.messages.specs.Answers.{number_of}
 use Rattle.octets.specs.Octets.{splice}
-use Rattle.messages.specs.Reading.{Checked, no, yes}
 use Rattle.ends.specs.Answers.{answer_of, summary}
 use Rattle.ends.specs.Outcomes.{frames_of, joined}
 use Rattle.car_rules.specs.declared.Car.{Car}
-use Rattle.car_rules.specs.declared.Key.{Key}
-use Rattle.car_rules.specs.declared.KeyAnswer.{KeyAnswer}
-use Rattle.car_rules.specs.declared.KeyAnswer.TheVariants.{Refused, Given}
 use Rattle.car_rules.specs.declared.Stepped.{Stepped}
 use Rattle.car_rules.specs.Calls.{Call}
 use Rattle.car_rules.specs.Invariant.{Invariant}
 use Rattle.car_rules.specs.Rules.{configured, configuring, step, outcome}
-
--- what the key query's answer says
-abbrev pub key_of : KeyAnswer → Checked Key
-key_of (Refused x) = no (number_of x)
-key_of (Given key) = yes key
 
 -- the whole promise of a call: r, and the output from entry to exit
 pub record Answers (c : Car) (x : Call) (entry exit : List ℕ) (r : Stepped) : Type 0 where

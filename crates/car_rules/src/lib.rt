@@ -2,7 +2,8 @@
 #![tactic(auto)]
 
 ghost use Rattle.std.specs.Prelude.{◌≡◌};
-ghost use Rattle.car_rules.specs.Answers.{key_of, Configures};
+ghost use Rattle.messages.specs.Answers.{checked_of};
+ghost use Rattle.car_rules.specs.Answers.{Configures};
 ghost use Rattle.car_rules.specs.Cars.{no_reports};
 ghost use Rattle.car_rules.specs.Rules.{is_good, key_query};
 
@@ -40,6 +41,7 @@ pub const MOST_REFERENCE: u32 = 255;
 pub const LEAST_OUTPUT: usize = 85;
 
 // What a car is configured with; good is false where it was refused.
+// A flag and no `Option`: `configure` promises the numbers of a refused configuration too (`Rules.configured`).
 #[derive(Clone, Copy)]
 pub struct Configuration {
     pub good: bool,
@@ -92,6 +94,7 @@ pub struct Report {
 pub type ReportArray = [Report; STATIONS];
 
 // A car's side of SLAC matching; the clock is the last reading taken, run and random value those of the last start.
+// Its reports' count stands beside their array, and in no `Vec`: no heap. The rules name both (`Cars.reports_of`).
 #[derive(Clone, Copy)]
 pub struct Car {
     pub config: Configuration,
@@ -104,17 +107,11 @@ pub struct Car {
 }
 
 // The car after a call, and what the call gives.
+// A type of its own beside a station's: each promise of a call (`Answers`, `Configures`, `Settles`) names its `car`, which is no plainer by another word.
 #[derive(Clone, Copy)]
 pub struct Stepped {
     pub car: Car,
     pub answer: Answer,
-}
-
-// What the key query gives.
-#[derive(Clone, Copy)]
-pub enum KeyAnswer {
-    Refused(Refusal),
-    Given(Key),
 }
 
 // No reports.
@@ -139,50 +136,37 @@ pub fn configure(address: CarAddress, reference: u32) -> Stepped
     ensures { Configures address reference result }
 {
     let good = is_good(address, reference);
-    let reports = no_reports();
-    let config = Configuration {
-        good: good,
-        address: address,
-        reference: reference,
-    };
     let car = Car {
-        config: config,
+        config: Configuration {
+            good,
+            address,
+            reference,
+        },
         state: State::Idle,
         clock: 0,
         run: RunId(0),
         random: Random(0, 0),
-        reports: reports,
+        reports: no_reports(),
         count: 0,
     };
-    if good {
-        Stepped {
-            car: car,
-            answer: Answer::Done {
-                frames: 0,
-                octets: 0,
-                indication: Indication::Nothing,
-            },
-        }
+    let answer = if good {
+        ends::silent(Indication::Nothing)
     } else {
-        Stepped {
-            car: car,
-            answer: Answer::Refused(Refusal::BadConfiguration),
-        }
-    }
+        Err(Refusal::BadConfiguration)
+    };
+    Stepped { car, answer }
 }
 
 // The key query: the station that the car joins or has joined, with its NID and NMK.
-pub fn key_query(car: Car) -> KeyAnswer
-    ensures { key_of result ≡ key_query car }
+#[tactic(auto, unfolding(crate::specs::Rules::key_query))]
+pub fn key_query(car: Car) -> Result<Key, Refusal>
+    ensures { checked_of result ≡ key_query car }
 {
-    let config = car.config;
-    let state = car.state;
-    if !config.good {
-        return KeyAnswer::Refused(Refusal::BadConfiguration);
+    if !car.config.good {
+        return Err(Refusal::BadConfiguration);
     }
-    match state {
-        State::Joining { left: _, key } => KeyAnswer::Given(key),
-        State::Matched(key) => KeyAnswer::Given(key),
-        _ => KeyAnswer::Refused(Refusal::WrongState),
+    match car.state {
+        State::Joining { key, .. } | State::Matched(key) => Ok(key),
+        _ => Err(Refusal::WrongState),
     }
 }

@@ -1,7 +1,7 @@
 -- The steps of the loops over runs of words.
-use Rattle.std.proofs.Common.{◌≡◌, ℕ, ◌+◌, ◌<◌, ◌≤◌, List, [], ◌∷◌, ◌++◌, length, get_or, take, set, replicate, sym, refl, ap, ◌∙◌, subst, add-one, arith, length-set, take_all, take-suc-set}
+use Rattle.std.proofs.Common.{◌≡◌, ℕ, ◌+◌, ◌<◌, ◌≤◌, List, [], ◌∷◌, ◌++◌, length, get_or, take, set, replicate, sym, refl, ap, ◌∙◌, add-one, arith, length-set, take_all, take-suc-set}
 use lib.ListN.{replicate-append-replicate}
-use lib.Seq.{sets, set_out}
+use lib.Seq.{sets}
 use Rattle.octets.proofs.LoopLaws.{copy_in_more}
 
 -- ---- a copy into a slice
@@ -21,14 +21,6 @@ copied_next src out₀ out at i c h = record {
   size = length-set out (at + i) (get_or src i 0) ∙ c.size;
   done = ap (λ (o : List ℕ). set o (at + i) (get_or src i 0)) c.done ∙ copy_in_more src out₀ at i h;
 }
-
--- past the end nothing is stored
-pub copied_past : (src out₀ out : List ℕ) (at i : ℕ) → Copied src out₀ at out i → i < length src → length out ≤ at + i → Copied src out₀ at out (i + 1)
-copied_past src out₀ out at i c h b = subst (λ (o : List ℕ). Copied src out₀ at o (i + 1)) (set_out out (at + i) (get_or src i 0) b) (copied_next src out₀ out at i c h)
-
--- the same of an equal list
-pub copied_as : (src out₀ out o : List ℕ) (at i : ℕ) → o ≡ out → Copied src out₀ at out i → Copied src out₀ at o i
-copied_as src out₀ out o at i e c = subst (λ (l : List ℕ). Copied src out₀ at l i) (sym e) c
 
 pub copied_end : (src out₀ out : List ℕ) (at i : ℕ) → Copied src out₀ at out i → length src ≤ i → out ≡ sets out₀ at src
 copied_end src out₀ out at i c h = c.done ∙ ap (sets out₀ at) (take_all i src h)

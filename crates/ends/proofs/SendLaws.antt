@@ -1,13 +1,14 @@
 -- Sending: what writing gives is what is told, and what can be written is sent.
 use Rattle.std.proofs.Common.{◌≡◌, ℕ, List, [], ◌∷◌, length, sym, refl, ap, ◌∙◌, subst, append-nil}
-use Rattle.messages.specs.declared.Written.{Written}
-use Rattle.messages.specs.Answers.{written_of}
+use Rattle.messages.specs.Answers.{checked_of}
 use Rattle.octets.specs.Octets.{splice}
 use Rattle.messages.specs.Reading.{Checked, no, yes}
 use Rattle.messages.specs.Table.{Message}
 use Rattle.messages.specs.Writing.{frame, write_rules, length_of, octets_of}
 use Rattle.messages.proofs.WriteLaws.{writes}
-use Rattle.ends.specs.declared.Answer.{Answer}
+use Rattle.std.specs.Prelude.{Result, Ok, Err}
+use Rattle.messages.specs.declared.Refusal.{Refusal}
+use Rattle.ends.specs.declared.Done.{Done}
 use Rattle.ends.specs.declared.Indication.{Indication}
 use Rattle.ends.specs.Lists.{joins}
 use Rattle.ends.specs.Outcomes.{frames_of, joined}
@@ -25,7 +26,7 @@ octets_sent x (no n) = refl
 octets_sent x (yes ws) = sym (append-nil ws)
 
 -- what was written, whatever the message, is said
-pub says_written : (w : Checked (List ℕ)) (x : Indication) (entry exit : List ℕ) (a : Written) (r : Answer) → written_of a ≡ length_of w → exit ≡ splice 0 (octets_of w) entry → answer_of r ≡ told_of x (written_of a) → Says (sent_of x w) entry exit r
+pub says_written : (w : Checked (List ℕ)) (x : Indication) (entry exit : List ℕ) (a : Result ℕ Refusal) (r : Result Done Refusal) → checked_of a ≡ length_of w → exit ≡ splice 0 (octets_of w) entry → answer_of r ≡ told_of x (checked_of a) → Says (sent_of x w) entry exit r
 says_written w x entry exit a r ea eo e = record {
   answer = e ∙ ap (told_of x) ea ∙ sym (told_sent x w);
   octets = eo ∙ ap (λ (ws : List ℕ). splice 0 ws entry) (octets_sent x w);

@@ -1,9 +1,9 @@
 -- Document 01's reading of the answers that the code gives, and the numbers of indications.
-use Rattle.std.specs.Prelude.{ℕ, length}
+use Rattle.std.specs.Prelude.{ℕ, length, Result, Ok, Err}
 use Rattle.messages.specs.Reading.{Checked, no, yes}
 use Rattle.messages.specs.Answers.{number_of}
-use Rattle.ends.specs.declared.Answer.{Answer}
-use Rattle.ends.specs.declared.Answer.TheVariants as answer
+use Rattle.messages.specs.declared.Refusal.{Refusal}
+use Rattle.ends.specs.declared.Done.{Done}
 use Rattle.ends.specs.declared.Indication.{Indication}
 use Rattle.ends.specs.declared.Indication.TheVariants.{Nothing, NoLink, LinkEstablished, Found, PotentiallyFound, NotFound, KeyGiven}
 use Rattle.ends.specs.Outcomes.{Outcome, joined}
@@ -15,9 +15,13 @@ pub record Summary : Type 0 where
   pub indication : Indication
 
 -- what an answer says
-abbrev pub answer_of : Answer → Checked Summary
-answer_of (answer.Refused x) = no (number_of x)
-answer_of (answer.Done n k i) = yes (record { frames = n; octets = k; indication = i })
+abbrev pub answer_of : Result Done Refusal → Checked Summary
+answer_of (Err x) = no (number_of x)
+answer_of (Ok d) = yes (record { frames = d.frames; octets = d.octets; indication = d.indication })
+
+-- an accepted call with no frame
+abbrev pub silently : Indication → Result Done Refusal
+silently i = Ok (record { frames = 0; octets = 0; indication = i })
 
 -- what an answer to this outcome must say
 abbrev pub summary : Outcome → Checked Summary

@@ -1,9 +1,6 @@
 -- The clock: "a free-running 32-bit millisecond counter that wraps".
 use Rattle.std.specs.Prelude.{ℕ, ◌+◌, ◌-◌, ◌%◌, ◌^◌, Bool, nat_le}
-use Rattle.messages.specs.Answers.{number_of}
-use Rattle.messages.specs.Reading.{Checked, no, yes, check}
-use Rattle.ends.specs.declared.TickTime.{TickTime}
-use Rattle.ends.specs.declared.TickTime.TheVariants.{Refused, Elapsed}
+use Rattle.messages.specs.Reading.{Checked, yes, check}
 use Rattle.ends.specs.Constants.{longest_gap}
 
 -- "the new reading less the last, modulo 2^32"
@@ -17,8 +14,3 @@ tick_time good least room reading last =
     (check (nat_le least room) 15
     (check (nat_le (elapsed reading last) longest_gap) 14
     (yes (elapsed reading last))))
-
--- what the code's answer says of it
-abbrev pub tick_time_of : TickTime → Checked ℕ
-tick_time_of (Refused x) = no (number_of x)
-tick_time_of (Elapsed t) = yes t

@@ -5,13 +5,13 @@ pub mod fields;
 pub mod runs;
 
 ghost use Rattle.std.specs.Prelude.{◌≡◌, ◌-◌};
-ghost use Rattle.messages.specs.Answers.{message_of, besides, written_of};
-ghost use Rattle.ends.specs.Answers.{answer_of, indication_number};
+ghost use Rattle.messages.specs.Answers.{message_of, besides, checked_of};
+ghost use Rattle.ends.specs.Answers.{answer_of, silently, indication_number};
 ghost use Rattle.ends.specs.Clock as clock;
-ghost use Rattle.ends.specs.Clock.{tick_time_of, tick_time};
+ghost use Rattle.ends.specs.Clock.{tick_time};
 ghost use Rattle.ends.specs.Sending.{told_of, Sends};
 
-use messages::{Edition, GroupValues, Ids, Message, Refusal, Written};
+use messages::{Edition, GroupValues, Ids, Message, Refusal};
 
 // How often a request or a report is sent again: C_EV_match_retry.
 pub const RETRIES: u8 = 2;
@@ -29,93 +29,95 @@ pub const JOINING_TIME: u32 = 12000;
 pub const LONGEST_GAP: u32 = 60000;
 
 // What a call tells besides its frames; the first three at either end, the others at the car's.
-#[derive(Clone, Copy)]
+#[derive(Clone, Copy, PartialEq, Eq)]
 pub enum Indication {
-    Nothing,
-    NoLink,
-    LinkEstablished,
-    Found,
-    PotentiallyFound,
-    NotFound,
-    KeyGiven,
-}
-
-// What a call gives: a refusal, or how many frames of how many octets in all stand in the output.
-#[derive(Clone, Copy)]
-pub enum Answer {
-    Refused(Refusal),
-    Done {
-        frames: u8,
-        octets: usize,
-        indication: Indication,
-    },
-}
-
-// The time between the last reading and a tick's, or a refusal.
-#[derive(Clone, Copy)]
-pub enum TickTime {
-    Refused(Refusal),
-    Elapsed(u32),
+    Nothing = 0,
+    NoLink = 1,
+    LinkEstablished = 2,
+    Found = 3,
+    PotentiallyFound = 4,
+    NotFound = 5,
+    KeyGiven = 6,
 }
 
 // An indication's number, 0 for none.
-pub fn indication_number(indication: Indication) -> u32
-    ensures { result ≡ indication_number indication }
-{
-    match indication {
-        Indication::Nothing => 0,
-        Indication::NoLink => 1,
-        Indication::LinkEstablished => 2,
-        Indication::Found => 3,
-        Indication::PotentiallyFound => 4,
-        Indication::NotFound => 5,
-        Indication::KeyGiven => 6,
+impl From<Indication> for u32 {
+    ghost from_gives = { λ indication number. number ≡ indication_number indication };
+
+    fn from(indication: Indication) -> u32 {
+        indication as u32
     }
+}
+
+// What an accepted call gives: how many frames of how many octets in all stand in the output, and the indication.
+#[derive(Clone, Copy)]
+pub struct Done {
+    pub frames: u8,
+    pub octets: usize,
+    pub indication: Indication,
+}
+
+// What a call gives, or a refusal.
+pub type Answer = Result<Done, Refusal>;
+
+// An accepted call with no frame.
+pub fn silent(indication: Indication) -> Answer
+    ensures { result ≡ silently indication }
+{
+    Ok(Done {
+        frames: 0,
+        octets: 0,
+        indication,
+    })
 }
 
 // The time between two readings of a clock that wraps.
 pub fn elapsed(reading: u32, last: u32) -> u32
     ensures { result ≡ clock.elapsed reading last }
 {
-    std::num::wrapping_sub_u32(reading, last)
+    reading.wrapping_sub(last)
 }
 
 // A tick's elapsed time: 16 where the configuration is bad, 15 where the room is less than the least, 14 where the gap is too long.
-pub fn tick_time(good: bool, least: usize, room: usize, reading: u32, last: u32) -> TickTime
-    ensures { tick_time_of result ≡ tick_time good least room reading last }
+pub fn tick_time(
+    good: bool,
+    least: usize,
+    room: usize,
+    reading: u32,
+    last: u32,
+) -> Result<u32, Refusal>
+    ensures { checked_of result ≡ tick_time good least room reading last }
 {
     if !good {
-        return TickTime::Refused(Refusal::BadConfiguration);
+        return Err(Refusal::BadConfiguration);
     }
     if room < least {
-        return TickTime::Refused(Refusal::OutputTooShort);
+        return Err(Refusal::OutputTooShort);
     }
     let time = elapsed(reading, last);
     if LONGEST_GAP < time {
-        return TickTime::Refused(Refusal::TickGap);
+        return Err(Refusal::TickGap);
     }
-    TickTime::Elapsed(time)
+    Ok(time)
 }
 
 // What is left of a time after so many milliseconds: the excess is dropped.
 pub fn left_after(time: u32, elapsed: u32) -> u32
     ensures { result ≡ time - elapsed }
 {
-    if time <= elapsed { 0 } else { time - elapsed }
+    time.saturating_sub(elapsed)
 }
 
 // What is told of one frame that was written, with an indication; or what writing refuses.
-pub fn told(written: Written, indication: Indication) -> Answer
-    ensures { answer_of result ≡ told_of indication (written_of written) }
+pub fn told(written: Result<usize, Refusal>, indication: Indication) -> Answer
+    ensures { answer_of result ≡ told_of indication (checked_of written) }
 {
-    match written {
-        Written::Octets(octets) => Answer::Done {
-            frames: 1,
-            octets: octets,
-            indication: indication,
-        },
-        Written::Refused(refusal) => Answer::Refused(refusal),
-    }
+    let octets = written?;
+    Ok(Done {
+        frames: 1,
+        octets,
+        indication,
+    })
 }
 
 // Writes a message in an edition from the output's first octet and tells of its one frame, with an indication; or what writing refuses.
@@ -129,8 +131,6 @@ pub fn send(
 ) -> Answer
     ensures { Sends (message_of edition message (besides values ids)) indication out.old out.new result }
 {
-    told(
-        messages::write(edition, message, values, ids, out),
-        indication,
-    )
+    let written = messages::write(edition, message, values, ids, out);
+    told(written, indication)
 }

@@ -10,8 +10,9 @@ use Rattle.messages.specs.declared.Nid.{Nid}
 use Rattle.messages.specs.declared.Nmk.{Nmk}
 use Rattle.messages.specs.declared.Refusal.TheVariants.{BadConfiguration}
 use Rattle.messages.specs.declared.StationAddress.{StationAddress}
-use Rattle.ends.specs.declared.Answer.{Answer}
-use Rattle.ends.specs.declared.Answer.TheVariants.{Refused, Done}
+use Rattle.std.specs.Prelude.{Result, Ok, Err}
+use Rattle.messages.specs.declared.Refusal.{Refusal}
+use Rattle.ends.specs.declared.Done.{Done}
 use Rattle.ends.specs.declared.Indication.TheVariants.{Nothing}
 use Rattle.rules.specs.declared.Pilot.TheVariants.{A}
 use Rattle.rules.specs.declared.Record.{Record}
@@ -21,7 +22,7 @@ use Rattle.rules.specs.Constants.{record_count}
 use Rattle.ends.specs.Lists.{joins}
 use Rattle.rules.specs.Rules.{is_good, free_record, configured, configuring}
 use Rattle.rules.specs.Invariant.{Invariant}
-use Rattle.ends.specs.Answers.{answer_of, summary}
+use Rattle.ends.specs.Answers.{answer_of, silently, summary}
 use Rattle.rules.specs.Answers.{Configures}
 use Rattle.rules.proofs.InvariantKept.{configured_keeps}
 
@@ -39,12 +40,12 @@ module _ (a : StationAddress) (m : ModemAddress) (nid : Nid) (nmk : Nmk) (exempt
   unfolding configured
   is_configured = rw (e, r)
 
-  promised : (x : Answer) → answer_of x ≡ summary (configuring a m nid carriers) → Configures a m nid nmk exempt edition carriers (record { station = made; answer = x })
+  promised : (x : Result Done Refusal) → answer_of x ≡ summary (configuring a m nid carriers) → Configures a m nid nmk exempt edition carriers (record { station = made; answer = x })
   promised x h = record { station = is_configured; answer = h; kept = subst Invariant (sym is_configured) (configured_keeps a m nid nmk exempt edition carriers) }
 
-  pub promised_good : g ≡ true → Configures a m nid nmk exempt edition carriers (record { station = made; answer = Done 0 0 Nothing })
+  pub promised_good : g ≡ true → Configures a m nid nmk exempt edition carriers (record { station = made; answer = silently Nothing })
   unfolding joins
-  promised_good t = promised (Done 0 0 Nothing) (rw (sym e ∙ t))
+  promised_good t = promised (silently Nothing) (rw (sym e ∙ t))
 
-  pub promised_bad : g ≡ false → Configures a m nid nmk exempt edition carriers (record { station = made; answer = Refused BadConfiguration })
-  promised_bad t = promised (Refused BadConfiguration) (rw (sym e ∙ t))
+  pub promised_bad : g ≡ false → Configures a m nid nmk exempt edition carriers (record { station = made; answer = Err BadConfiguration })
+  promised_bad t = promised (Err BadConfiguration) (rw (sym e ∙ t))

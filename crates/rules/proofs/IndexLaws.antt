@@ -11,13 +11,11 @@ use Rattle.messages.specs.declared.CarAddress.{CarAddress}
 use Rattle.messages.specs.declared.Refusal.{Refusal}
 use Rattle.messages.specs.Answers.{number_of}
 use Rattle.messages.specs.Reading.{Checked, no, yes, check}
-use Rattle.rules.specs.declared.Queried.{Queried}
 use Rattle.rules.specs.declared.Record.{Record}
 use Rattle.rules.specs.declared.Station.{Station}
 use Rattle.rules.specs.Records.{holds, mine}
 use Rattle.rules.specs.Frames.{at_own}
 use Rattle.rules.specs.Rules.{Told, told_of, told_in, query}
-use Rattle.rules.specs.Answers.{untold_as, Tells}
 use Rattle.ends.proofs.ListLaws.{drop_next, only_none, only_yes, only_no}
 
 -- the length of an array, passed
@@ -42,14 +40,6 @@ pub told_none : (c : CarAddress) (l : List Record) (i : ℕ) → length l ≤ i 
 told_none c l i h = ap (told_in c) (drop_of_length-le l h) ∙ ap (λ (own : List Record). at_own own told_of) (only_none (holds c))
 
 -- ---- the service query
-
--- the same rule in other words
-pub tells_as : (x y : Checked Told) (q : Queried) → x ≡ y → Tells x q → Tells y q
-tells_as x y q e h = subst (λ (z : Checked Told). Tells z q) e h
-
--- a refusal
-pub tells_refused : (x : Checked Told) (n : Refusal) (q : Queried) → x ≡ no (number_of n) → q ≡ untold_as n → Tells x q
-tells_refused x n q e h = tells_as (no (number_of n)) x q (sym e) (subst (Tells (no (number_of n))) (sym h) (record { heard = refl; spread = refl }))
 
 module _ (r : Record) where
   -- a record that counts no profile

@@ -10,7 +10,7 @@ ghost use Rattle.rules.specs.Records as records;
 ghost use Rattle.rules.specs.Records.{no_sums, no_spread};
 ghost use Rattle.rules.specs.Rules as rules;
 ghost use Rattle.rules.specs.Rules.{may_reply, is_good, free_record, told_of, told_in};
-ghost use Rattle.rules.specs.Answers.{untold_as, Tells, Configures, inspected_of};
+ghost use Rattle.rules.specs.Answers.{heard_of, Configures, inspected_of};
 ghost use Rattle.rules.specs.Numbers.{pilot_of, edition_of, state_number};
 
 use ends::{Answer, Indication, RESPONSE_TIME};
@@ -61,7 +61,7 @@ pub const SUCCESS_TIME: u32 = AWAITING_TIME;
 // The most toggles that VALIDATE.CNF can tell.
 pub const MOST_TOGGLES: u8 = 255;
 
-// The results that the station sends: ready to count.
+// The results that the station sends: ready to count. Numbers and no enum: `messages::write` takes any, and refuses one that is none with 6.
 pub const READY_RESULT: u8 = 1;
 
 // The window ended with the pilot at B.
@@ -86,6 +86,7 @@ pub const CONFIRMATION_OCTETS: usize = 60;
 pub const LEAST_OUTPUT: usize = REPORT_OCTETS * RECORDS;
 
 // What a station is configured with; good is false where it was refused, exempt is true where validation is not required, and carriers is how many carriers our modem has.
+// A flag and no `Option`: `configure` promises the numbers of a refused configuration too (`Rules.configured`).
 #[derive(Clone, Copy)]
 pub struct Configuration {
     pub good: bool,
@@ -122,6 +123,7 @@ pub struct Spread {
 
 // One car's run: the sound counts heard are the ones of a set, the sums and the spread those of the profiles counted; in the SAE edition
 // whether it is a later try, and the group count, 0 before a profile is counted.
+// A flag and no `Option`: a freed record keeps its numbers (`Records.freed`), and the words that C lends hold them.
 #[derive(Clone, Copy)]
 pub struct Record {
     pub car: CarAddress,
@@ -153,7 +155,7 @@ pub enum State {
 }
 
 // The state of the control pilot.
-#[derive(Clone, Copy)]
+#[derive(Clone, Copy, PartialEq, Eq)]
 pub enum Pilot {
     A,
     B,
@@ -164,7 +166,7 @@ pub enum Pilot {
 }
 
 // What a pilot change means for a toggle: it begins one, ends one, changes nothing, or leaves none begun.
-#[derive(Clone, Copy)]
+#[derive(Clone, Copy, PartialEq, Eq)]
 pub enum Turn {
     Begins,
     Ends,
@@ -183,63 +185,45 @@ pub struct Station {
 }
 
 // The station after a call, and what the call gives.
+// A type of its own beside a car's: each promise of a call (`Answers`, `Configures`, `Settles`) names its `station`, which is no plainer by another word.
 #[derive(Clone, Copy)]
 pub struct Stepped {
     pub station: Station,
     pub answer: Answer,
 }
 
-// The station that configuring gives, and what it answers.
+// What the service query tells: the sounds heard, and the spread.
 #[derive(Clone, Copy)]
-pub struct Configured {
-    pub station: Station,
-    pub answer: Answer,
-}
-
-// How many sounds a car's run has heard, or a refusal.
-#[derive(Clone, Copy)]
-pub enum HeardAnswer {
-    Refused(Refusal),
-    Heard(u32),
-}
-
-// What the service query gives: the sounds heard, or a refusal, and the spread, zeros where it is refused.
-#[derive(Clone, Copy)]
-pub struct Queried {
-    pub heard: HeardAnswer,
+pub struct Heard {
+    pub sounds: u32,
     pub spread: Spread,
 }
 
-// What the inspection gives: the state's number and the car, or a refusal.
+// What the inspection tells: the state's number and the car.
+// A number and no enum: C and the scripts are told it, and in the states without a car the car is 0 (`Rules.inspection`).
 #[derive(Clone, Copy)]
-pub enum Inspection {
-    Refused(Refusal),
-    At { state: u32, car: CarAddress },
+pub struct Inspected {
+    pub state: u32,
+    pub car: CarAddress,
 }
 
 // A pilot state by its number: 0 to 4 for A to E, any other for F.
-pub fn pilot_of(number: u64) -> Pilot
-    ensures { result ≡ pilot_of number }
-{
-    if number == 0 {
-        return Pilot::A;
+impl From<u64> for Pilot {
+    ghost from_gives = { λ number pilot. pilot ≡ pilot_of number };
+
+    fn from(number: u64) -> Pilot {
+        match number {
+            0 => Pilot::A,
+            1 => Pilot::B,
+            2 => Pilot::C,
+            3 => Pilot::D,
+            4 => Pilot::E,
+            _ => Pilot::F,
+        }
     }
-    if number == 1 {
-        return Pilot::B;
-    }
-    if number == 2 {
-        return Pilot::C;
-    }
-    if number == 3 {
-        return Pilot::D;
-    }
-    if number == 4 {
-        return Pilot::E;
-    }
-    Pilot::F
 }
 
-// An edition by its number: 1 for SAE, any other for ISO.
+// An edition by its number: 1 for SAE, any other for ISO. No `From`: it would have to stand in `messages`, and the numbers are a station's (`Numbers.edition_of`).
 pub fn edition_of(number: u64) -> Edition
     ensures { result ≡ edition_of number }
 {
@@ -271,8 +255,6 @@ pub fn no_spread() -> Spread
 fn free_record() -> Record
     ensures { result ≡ free_record }
 {
-    let sums = no_sums();
-    let spread = no_spread();
     Record {
         car: CarAddress(0),
         run: RunId(0),
@@ -280,8 +262,8 @@ fn free_record() -> Record
         phase: Phase::Asked(ASKED_TIME),
         heard: 0,
         profiles: 0,
-        sums: sums,
-        spread: spread,
+        sums: no_sums(),
+        spread: no_spread(),
         later: false,
         groups: 0,
     }
@@ -291,11 +273,11 @@ fn free_record() -> Record
 fn free_records() -> RecordArray
     ensures { result ≡ replicate record_count free_record }
 {
-    let free = free_record();
-    [free; RECORDS]
+    [free_record(); RECORDS]
 }
 
 // Whether replies can be sent: both addresses are unicast and different, and the NID is below 2^54.
+// Address by address and no `Configuration`, whose `good` this decides; the two addresses are of two types: their numbers are compared.
 pub fn may_reply(address: StationAddress, modem: ModemAddress, nid: Nid) -> bool
     ensures { result ≡ may_reply address modem nid }
 {
@@ -312,7 +294,8 @@ fn is_good(address: StationAddress, modem: ModemAddress, nid: Nid, carriers: u32
     may_reply(address, modem, nid) & amplitude::is_carriers(carriers as usize)
 }
 
-// A station, unmatched; a bad configuration is refused, and its station answers 16 to everything.
+// A station, unmatched; a bad configuration is refused, and its station answers 16 to everything. Seven values and no struct: this is what makes
+// a `Configuration` of them.
 pub fn configure(
     address: StationAddress,
     modem: ModemAddress,
@@ -321,152 +304,109 @@ pub fn configure(
     exempt: bool,
     edition: Edition,
     carriers: u32,
-) -> Configured
+) -> Stepped
     ensures { Configures address modem nid nmk exempt edition carriers result }
 {
     let good = is_good(address, modem, nid, carriers);
-    let records = free_records();
-    let config = Configuration {
-        good: good,
-        address: address,
-        modem: modem,
-        nid: nid,
-        nmk: nmk,
-        exempt: exempt,
-        edition: edition,
-        carriers: carriers,
-    };
     let station = Station {
-        config: config,
+        config: Configuration {
+            good,
+            address,
+            modem,
+            nid,
+            nmk,
+            exempt,
+            edition,
+            carriers,
+        },
         state: State::Unmatched,
         pilot: Pilot::A,
         clock: 0,
-        records: records,
+        records: free_records(),
     };
-    if good {
-        Configured {
-            station: station,
-            answer: Answer::Done {
-                frames: 0,
-                octets: 0,
-                indication: Indication::Nothing,
-            },
-        }
+    let answer = if good {
+        ends::silent(Indication::Nothing)
     } else {
-        Configured {
-            station: station,
-            answer: Answer::Refused(Refusal::BadConfiguration),
-        }
-    }
+        Err(Refusal::BadConfiguration)
+    };
+    Stepped { station, answer }
 }
 
 // Whether a record is one that the car holds.
 pub fn holds(car: CarAddress, r: Record) -> bool
     ensures { result ≡ records.holds car r }
 {
-    let owner = r.car;
-    r.held & (car.0 == owner.0)
-}
-
-// A refused query.
-fn untold(refusal: Refusal) -> Queried
-    ensures { result ≡ untold_as refusal }
-{
-    let zeros = messages::no_groups();
-    let spread = Spread {
-        least: zeros,
-        greatest: zeros,
-    };
-    Queried {
-        heard: HeardAnswer::Refused(refusal),
-        spread: spread,
-    }
+    r.held & (car == r.car)
 }
 
 // What a record tells: 11 where it counts no profile.
-fn told_of(r: Record) -> Queried
-    ensures { Tells (told_of r) result }
+fn told_of(r: Record) -> Result<Heard, Refusal>
+    ensures { heard_of result ≡ told_of r }
 {
     if r.profiles == 0 {
-        return untold(Refusal::NoRecord);
+        return Err(Refusal::NoRecord);
     }
-    let spread = r.spread;
-    Queried {
-        heard: HeardAnswer::Heard(u16::count_ones(r.heard)),
-        spread: spread,
-    }
+    Ok(Heard {
+        sounds: r.heard.count_ones(),
+        spread: r.spread,
+    })
 }
 
 // What the car's record tells.
-fn told_in(records: RecordArray, car: CarAddress) -> Queried
-    ensures { Tells (told_in car records) result }
+fn told_in(records: RecordArray, car: CarAddress) -> Result<Heard, Refusal>
+    ensures { heard_of result ≡ told_in car records }
 {
-    let mut i: usize = 0;
-    while i < RECORDS {
-        let r = records[i];
+    for r in records {
         if holds(car, r) {
             return told_of(r);
         }
-        i = i + 1;
     }
-    untold(Refusal::NoRecord)
+    Err(Refusal::NoRecord)
 }
 
 // The service query: how many sounds a car's run has heard, and the least and greatest value of each group.
-pub fn query(station: Station, car: CarAddress) -> Queried
-    ensures { Tells (rules.query station car) result }
+pub fn query(station: Station, car: CarAddress) -> Result<Heard, Refusal>
+    ensures { heard_of result ≡ rules.query station car }
 {
-    let config = station.config;
-    let records = station.records;
-    if config.good {
-        told_in(records, car)
+    if station.config.good {
+        told_in(station.records, car)
     } else {
-        untold(Refusal::BadConfiguration)
+        Err(Refusal::BadConfiguration)
     }
 }
 
-// The number of a state: 0 Unmatched, 1 Matching, 2 Joining, 3 Matched.
+// The number of a state: 0 Unmatched, 1 Matching, 2 Joining, 3 Matched. No `From`: the number is a part of the state, not the state.
 pub fn state_number(state: State) -> u32
     ensures { result ≡ state_number state }
 {
     match state {
         State::Unmatched => 0,
         State::Matching(_) => 1,
-        State::Joining {
-            left: _,
-            car: _,
-            run: _,
-        } => 2,
+        State::Joining { .. } => 2,
         State::Matched(_) => 3,
     }
 }
 
-// The car that joins or is matched; 0 where there is none.
+// The car that joins or is matched; 0 where there is none, as `Rules.car_in` has it and C is told.
 pub fn car_in(state: State) -> CarAddress
     ensures { result ≡ rules.car_in state }
 {
     match state {
-        State::Joining {
-            left: _,
-            car,
-            run: _,
-        } => car,
-        State::Matched(car) => car,
-        State::Unmatched => CarAddress(0),
-        State::Matching(_) => CarAddress(0),
+        State::Joining { car, .. } | State::Matched(car) => car,
+        State::Unmatched | State::Matching(_) => CarAddress(0),
     }
 }
 
 // The inspection: the state's number, and the car in Joining and Matched.
-pub fn inspect(config: Configuration, state: State) -> Inspection
+pub fn inspect(config: Configuration, state: State) -> Result<Inspected, Refusal>
     ensures { inspected_of result ≡ rules.inspection config state }
 {
     if config.good {
-        Inspection::At {
+        Ok(Inspected {
             state: state_number(state),
             car: car_in(state),
-        }
+        })
     } else {
-        Inspection::Refused(Refusal::BadConfiguration)
+        Err(Refusal::BadConfiguration)
     }
 }

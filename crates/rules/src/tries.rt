@@ -1,4 +1,6 @@
 // The times and counts of a try, and what a record keeps of group counts, in either edition.
+// Each is a match of its own: a generic one would be handed a column's three values at each call, and a type of the three tries would be
+// made of the two at each call, as a station keeps the edition and a record the try, which is no plainer.
 ghost use Rattle.std.specs.Prelude.{◌≡◌};
 ghost use Rattle.rules.specs.Constants.{sounding_time, sounds_per_try, pair_of};
 ghost use Rattle.rules.specs.Records.{groups_kept, groups_in};
@@ -11,15 +13,10 @@ use messages::{Edition, FIRST_ATTEMPT, GROUPS, ISO_ATTEMPT, LATER_ATTEMPT};
 pub fn sounding_time(edition: Edition, later: bool) -> u32
     ensures { result ≡ sounding_time edition later }
 {
-    match edition {
-        Edition::Iso => SOUNDING_TIME,
-        Edition::Sae => {
-            if later {
-                LATER_SOUNDING_TIME
-            } else {
-                FIRST_SOUNDING_TIME
-            }
-        }
+    match (edition, later) {
+        (Edition::Iso, _) => SOUNDING_TIME,
+        (Edition::Sae, false) => FIRST_SOUNDING_TIME,
+        (Edition::Sae, true) => LATER_SOUNDING_TIME,
     }
 }
 
@@ -27,9 +24,10 @@ pub fn sounding_time(edition: Edition, later: bool) -> u32
 pub fn sounds(edition: Edition, later: bool) -> u8
     ensures { result ≡ sounds_per_try edition later }
 {
-    match edition {
-        Edition::Iso => SOUNDS,
-        Edition::Sae => { if later { LATER_SOUNDS } else { FIRST_SOUNDS } }
+    match (edition, later) {
+        (Edition::Iso, _) => SOUNDS,
+        (Edition::Sae, false) => FIRST_SOUNDS,
+        (Edition::Sae, true) => LATER_SOUNDS,
     }
 }
 
@@ -37,9 +35,10 @@ pub fn sounds(edition: Edition, later: bool) -> u8
 pub fn pair(edition: Edition, later: bool) -> u64
     ensures { result ≡ pair_of edition later }
 {
-    match edition {
-        Edition::Iso => ISO_ATTEMPT,
-        Edition::Sae => { if later { LATER_ATTEMPT } else { FIRST_ATTEMPT } }
+    match (edition, later) {
+        (Edition::Iso, _) => ISO_ATTEMPT,
+        (Edition::Sae, false) => FIRST_ATTEMPT,
+        (Edition::Sae, true) => LATER_ATTEMPT,
     }
 }
 

@@ -3,7 +3,7 @@ use Rattle.car_rules.proofs.ConfigureLaws.{promised_good, promised_bad}
 use Rattle.car_rules.proofs.configure.Goals as goal
 
 pub returns-then-good : goal.returns-then-good
-returns-then-good c = let a = c.args in promised_good a.address a.reference _ _ c.is_good-good.ensures c.no_reports-reports.ensures c.if-good.true
+returns-then-good c = let a = c.args in rw c.silent-answer.ensures (promised_good a.address a.reference _ _ c.is_good-good.ensures c.no_reports.ensures c.if-good.true)
 
 pub returns-else-good : goal.returns-else-good
-returns-else-good c = let a = c.args in promised_bad a.address a.reference _ _ c.is_good-good.ensures c.no_reports-reports.ensures c.if-good.false
+returns-else-good c = let a = c.args in promised_bad a.address a.reference _ _ c.is_good-good.ensures c.no_reports.ensures c.if-good.false

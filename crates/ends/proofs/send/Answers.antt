@@ -8,4 +8,4 @@ use Rattle.ends.proofs.send.Goals as goal
 pub returns : goal.returns
 returns c =
     let a = c.args in
-    says_written (write_rules (message_of a.edition a.message (besides a.values a.ids)) (length a.out.now)) _ _ _ c.write.result c.told.result c.write.ensures.result_value c.write.ensures.out_after c.told.ensures
+    says_written (write_rules (message_of a.edition a.message (besides a.values a.ids)) (length a.out.now)) _ _ _ c.write-written.result c.told.result c.write-written.ensures.result_value c.write-written.ensures.out_after c.told.ensures

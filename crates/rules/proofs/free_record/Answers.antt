@@ -5,4 +5,4 @@ use Rattle.rules.proofs.free_record.Goals as goal
 
 pub returns : goal.returns
 unfolding free_record freed fresh
-returns c = rw (c.no_sums-sums.ensures, c.no_spread-spread.ensures)
+returns c = rw (c.no_sums.ensures, c.no_spread.ensures)

@@ -1,10 +1,10 @@
--- `rules::query` meets its contract.
-use Rattle.messages.specs.declared.Refusal.TheVariants.{BadConfiguration}
-use Rattle.rules.proofs.IndexLaws.{tells_as, tells_refused, told_good, told_bad}
+-- By whether the configuration is good.
+use mathlib.Core.Path.{sym, ◌∙◌}
+use Rattle.rules.proofs.IndexLaws.{told_good, told_bad}
 use Rattle.rules.proofs.query.Goals as goal
 
-pub returns-then-config : goal.returns-then-config
-returns-then-config c = let a = c.args in tells_as _ _ _ (told_good a.station a.car c.if-config.true) c.told_in.ensures
+pub returns-then-station : goal.returns-then-station
+returns-then-station c = let a = c.args in c.told_in.ensures ∙ told_good a.station a.car c.if-station.true
 
-pub returns-else-config : goal.returns-else-config
-returns-else-config c = let a = c.args in tells_refused _ BadConfiguration _ (told_bad a.station a.car c.if-config.false) c.untold.ensures
+pub returns-else-station : goal.returns-else-station
+returns-else-station c = let a = c.args in sym (told_bad a.station a.car c.if-station.false)

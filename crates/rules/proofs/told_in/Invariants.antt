@@ -1,12 +1,7 @@
--- `rules::told_in` meets its contract. The loop's invariant: no record passed is the car's.
-use Prim.Native.Nat.{◌-◌, ◌≤◌}
-use mathlib.Core.Path.{◌≡◌}
-use lib.ListN.{length, drop}
+-- No record passed is the car's.
+use Rattle.std.proofs.Common.{◌≡◌, drop}
 use Rattle.rules.specs.Rules.{told_in}
 use Rattle.rules.proofs.told_in.Given as goal
 
-abbrev pub invariant-loop-i : goal.invariant-loop-i
-invariant-loop-i l = (l.i ≤ length l.records) × (told_in l.car l.records ≡ told_in l.car (drop l.i l.records))
-
-abbrev pub decreases-loop-i : goal.decreases-loop-i
-decreases-loop-i l = length l.records - l.i
+abbrev pub invariant-loop-r : goal.invariant-loop-r
+invariant-loop-r l = told_in l.car l.r-items ≡ told_in l.car (drop l.r-index l.r-items)

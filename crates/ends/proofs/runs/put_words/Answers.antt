@@ -1,23 +1,19 @@
--- `ends::runs::put_words` meets its contract: so much is copied so far.
-use Rattle.std.proofs.Common.{arith}
-use Rattle.ends.proofs.CopyLaws.{copied_start, copied_next, copied_past, copied_as, copied_end}
+-- `ends::runs::put_words` meets its contract: the words that have room are all that is stored.
+use Rattle.std.proofs.Common.{◌≡◌, ℕ, ◌+◌, ◌-◌, List, length, take, ap, ◌∙◌, arith}
+use borrow.Rule.Slice.PartMut.{put_mid}
+use lib.Seq.{length-take-le}
+use Rattle.octets.proofs.LoopLaws.{sets_within, sets_put}
 use Rattle.ends.proofs.runs.put_words.Goals as goal
-use Rattle.ends.proofs.runs.put_words.Goals.{then-i-room, else-i-room}
 
-pub loop-i-init : goal.loop-i-init
-loop-i-init c = copied_start _ _ _
+pub returns-then-count-gt0 : goal.returns-then-count-gt0
+returns-then-count-gt0 c =
+    let a = c.args in
+    let src : List ℕ = a.src.now in
+    let n : ℕ = c.min-count.result in
+    let long : length (take n src) ≡ a.at + n - a.at = length-take-le n src (omega arith) ∙ omega arith in
+    ap (put_mid a.at (a.at + n - a.at) a.words.now) c.copy_from_slice.ensures.after
+    ∙ sets_put (take n src) a.words.now a.at (a.at + n - a.at) (omega arith) long
+    ∙ sets_within src a.words.now a.at n (omega arith)
 
-pub loop-i-preserved : goal.loop-i-preserved
-loop-i-preserved c =
-    let inv = c.loop-i.invariant in
-    let more = c.loop-i-test.true in
-    elim c.if-i-room.branch [
-      | then-i-room w ↦ copied_as _ _ _ _ _ _ w.words-is (copied_next _ _ _ _ _ inv more)
-      | else-i-room w ↦ copied_as _ _ _ _ _ _ w.words-is (copied_past _ _ _ _ _ inv more (omega (arith, w.if-i-room.false, c.room_at-room.ensures, inv.size)))
-    ]
-
-pub shape_of-words : goal.shape_of-words
-shape_of-words c = c.loop-i.invariant.size
-
-pub returns : goal.returns
-returns c = copied_end _ _ _ _ _ c.loop-i.invariant c.loop-i-test.false
+pub returns-else-count-gt0 : goal.returns-else-count-gt0
+returns-else-count-gt0 c = sets_within c.args.src.now c.args.words.now c.args.at 0 (omega arith)
