@@ -1,7 +1,8 @@
 -- What a call on a lent station promises.
-use Rattle.std.specs.Prelude.{ℕ, ◌≡◌, List}
+use Rattle.std.specs.Prelude.{ℕ, ◌≡◌, List, Result}
 use Rattle.octets.specs.Octets.{splice}
-use Rattle.ends.specs.declared.Answer.{Answer}
+use Rattle.messages.specs.declared.Refusal.{Refusal}
+use Rattle.ends.specs.declared.Done.{Done}
 use Rattle.rules.specs.declared.Station.{Station}
 use Rattle.rules.specs.Calls.{Call}
 use Rattle.ends.specs.Outcomes.{frames_of, joined}
@@ -10,7 +11,7 @@ use Rattle.ends.specs.Answers.{answer_of, summary}
 use Rattle.rules.specs.Invariant.{Invariant}
 
 -- the whole promise of a call x: the lent station from s to t, the output from entry to exit, and the answer r
-pub record InPlace (s : Station) (x : Call) (entry exit : List ℕ) (t : Station) (r : Answer) : Type 0 where
+pub record InPlace (s : Station) (x : Call) (entry exit : List ℕ) (t : Station) (r : Result Done Refusal) : Type 0 where
   -- the station is left as the rules step it
   pub station : t ≡ step s x
   -- the answer says what the rules give

@@ -1,16 +1,18 @@
 // A charging station's calls in place: each is lent the station and stores the one that the call by value returned.
+// Five calls of three lines each: a closure for the call in the middle would carry the whole promise of each, which is no plainer.
+// `Invariant` is asked for, as by `station`, which says why.
 #![tactic(auto)]
 
-ghost use Rattle.std.specs.Prelude.{[], length};
+ghost use Rattle.std.specs.Prelude.{◌≡◌, [], length};
 ghost use Rattle.rules.specs.Calls as calls;
 ghost use Rattle.rules.specs.Invariant.{Invariant};
 ghost use Rattle.rules.specs.Rules as rules;
-ghost use Rattle.rules.specs.Answers.{Tells};
+ghost use Rattle.rules.specs.Answers.{heard_of};
 ghost use Rattle.driver.specs.InPlace.{InPlace};
 
 use ends::Answer;
-use messages::CarAddress;
-use rules::{Pilot, Queried, Station};
+use messages::{CarAddress, Refusal};
+use rules::{Heard, Pilot, Station};
 
 // A frame was received: its reply stands from the output's first octet.
 pub fn frame(s: &mut Station, octets: &[u8], out: &mut [u8]) -> Answer
@@ -63,8 +65,8 @@ pub fn link_up(s: &mut Station) -> Answer
 }
 
 // The service query: how many sounds a car's run has heard, and the least and greatest value of each group.
-pub fn query(s: &Station, car: CarAddress) -> Queried
-    ensures { Tells (rules.query s.now car) result }
+pub fn query(s: &Station, car: CarAddress) -> Result<Heard, Refusal>
+    ensures { heard_of result ≡ rules.query s.now car }
 {
     rules::query(*s, car)
 }

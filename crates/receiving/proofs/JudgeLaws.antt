@@ -1,4 +1,5 @@
 -- Judging a frame, in the rules' words.
+use Rattle.std.specs.Prelude.{Result}
 use Prim.Native.Nat.{ℕ, ◌≤◌, ◌<◌}
 use mathlib.Core.Path.{◌≡◌, refl, sym, ap, ◌∙◌, subst}
 use mathlib.Core.Bool.{Bool, true, false, not, cond, ◌&&◌}
@@ -12,19 +13,15 @@ use Rattle.octets.specs.Octets.{Octets}
 use Rattle.messages.specs.declared.CarAddress.{CarAddress}
 use Rattle.messages.specs.declared.Message.{Message}
 use Rattle.messages.specs.declared.Message.TheVariants.{SlacParmReq, SlacParmCnf, StartAttenCharInd, AttenCharInd, AttenCharRsp, MnbcSoundInd, ValidateReq, ValidateCnf, SlacMatchReq, SlacMatchCnf, AttenProfileInd}
-use Rattle.messages.specs.declared.ReadAnswer.{ReadAnswer}
-use Rattle.messages.specs.declared.ReadAnswer.TheVariants as read_answer
 use Rattle.messages.specs.declared.Receiver.{Receiver}
 use Rattle.messages.specs.declared.Refusal.{Refusal}
-use Rattle.messages.specs.Answers.{number_of, message_of, answer_of}
+use Rattle.messages.specs.Answers.{message_of}
 use Rattle.messages.specs.Reading.{Checked, no, yes, check, Beside, beside_of, read_rules}
 use Rattle.messages.specs.declared.Edition.{Edition}
 use Rattle.messages.specs.Layout.{Values}
 use Rattle.messages.specs.Table.{Kind, slac_parm_req, slac_parm_cnf, start_atten_char_ind, atten_char_ind, atten_char_rsp, mnbc_sound_ind, validate_req, validate_cnf, slac_match_req, slac_match_cnf, atten_profile_ind, is_unicast, payload}
 use Rattle.amplitude.specs.Reading as amplitude
 use Rattle.amplitude.specs.Reading.{requested, summary_of}
-use Rattle.amplitude.specs.Answers as maps
-use Rattle.amplitude.specs.declared.ReadAnswer as map_answers
 use Rattle.messages.specs.Table as table
 use Rattle.messages.specs.contracts.Message.{the_type}
 use Rattle.rules.specs.declared.Configuration.{Configuration}
@@ -39,11 +36,11 @@ use Rattle.rules.specs.Frames.{state_rule, admitted}
 use Rattle.rules.specs.Rules.{rule}
 use Rattle.ends.proofs.Logic.{OnYes}
 use Rattle.rules.proofs.ReceivedLaws.{FrameAs, read_as, admitted_octets}
-use Rattle.receiving.specs.declared.judge.Judged.{Judged}
+use Rattle.receiving.specs.declared.judge.Asking as judge
 use Rattle.receiving.specs.declared.judge.Request as code
 use Rattle.receiving.specs.declared.judge.OwnMessage.TheVariants.{ValidateSecond}
 use Rattle.receiving.specs.declared.judge.Request.TheVariants as requests
-use Rattle.receiving.specs.Judge.{Asking, asking, for_us_rule, addressed_rule, judge_rule, map_judge_rule, request_of, judged_of, refusal_in, for_us}
+use Rattle.receiving.specs.Judge.{Asking, asking, for_us_rule, addressed_rule, judge_rule, map_judge_rule, request_of, judged_of, for_us}
 
 -- ---- the order of the refusals
 
@@ -66,20 +63,13 @@ module _ (o : Configuration) (room : ℕ) (s : List ℕ) where
       judged_read = rw (g, le-leb least_output room h)
 
       -- what cannot be read
-      pub judged_unread : (a : ReadAnswer) (x : Refusal) → answer_of o.edition a (beside_of (read_rules o.edition s)) ≡ read_rules o.edition s → a ≡ read_answer.Refused x → (y : Refusal) → y ≡ refusal_in a
-          → no (number_of y) ≡ judge_rule o room s
-      judged_unread a x e t y q =
-          let r : read_rules o.edition s ≡ no (number_of x) = sym e ∙ ap (λ (z : ReadAnswer). answer_of o.edition z (beside_of (read_rules o.edition s))) t in
-          ap (λ (z : Refusal). no (number_of z)) (q ∙ ap refusal_in t)
-          ∙ sym (judged_read ∙ ap (λ (w : Checked table.Message). and_then w (addressed_rule o)) r)
+      pub judged_unread : (n : ℕ) → no n ≡ read_rules o.edition s → no n ≡ judge_rule o room s
+      judged_unread n e = ap (λ (w : Checked table.Message). and_then w (addressed_rule o)) e ∙ sym judged_read
 
       -- what was read
-      pub judged_message : (a : ReadAnswer) (m : Message) (j : Judged) → answer_of o.edition a (beside_of (read_rules o.edition s)) ≡ read_rules o.edition s → a ≡ read_answer.Read m
+      pub judged_message : (m : Message) (j : Result judge.Asking Refusal) → yes (message_of o.edition m (beside_of (read_rules o.edition s))) ≡ read_rules o.edition s
           → ((x : Beside) → judged_of j x ≡ addressed_rule o (message_of o.edition m x)) → judged_of j (beside_of (read_rules o.edition s)) ≡ judge_rule o room s
-      judged_message a m j e t p =
-          let b = beside_of (read_rules o.edition s) in
-          let r : yes (message_of o.edition m b) ≡ read_rules o.edition s = sym (ap (λ (z : ReadAnswer). answer_of o.edition z b) t) ∙ e in
-          p b ∙ ap (λ (w : Checked table.Message). and_then w (addressed_rule o)) r ∙ sym judged_read
+      judged_message m j e p = p _ ∙ ap (λ (w : Checked table.Message). and_then w (addressed_rule o)) e ∙ sym judged_read
 
 -- ---- 7 and 17
 
@@ -90,10 +80,10 @@ for_us_rule_lem true c m x = refl
 for_us_rule_lem false c m x = refl
 
 -- a request q that was found to be q', of the message m that was found to be m'
-pub addressed_as : (o : Configuration) (b : Bool) (c : CarAddress) (q q' : code.Request) (m m' : Message) (j : Judged) → j ≡ for_us b c q → q ≡ q' → m ≡ m'
+pub addressed_as : (o : Configuration) (b : Bool) (c : CarAddress) (q q' : code.Request) (m m' : Message) (j : Result judge.Asking Refusal) → j ≡ for_us b c q → q ≡ q' → m ≡ m'
     → ((x : Beside) → check b 7 (yes (record { car = c; request = request_of q' x })) ≡ addressed_rule o (message_of o.edition m' x)) → (x : Beside) → judged_of j x ≡ addressed_rule o (message_of o.edition m x)
 addressed_as o b c q q' m m' j e f t h x =
-    ap (λ (y : Judged). judged_of y x) (e ∙ ap (for_us b c) f) ∙ for_us_rule_lem b c q' x ∙ h x ∙ sym (ap (λ (y : Message). addressed_rule o (message_of o.edition y x)) t)
+    ap (λ (y : Result judge.Asking Refusal). judged_of y x) (e ∙ ap (for_us b c) f) ∙ for_us_rule_lem b c q' x ∙ h x ∙ sym (ap (λ (y : Message). addressed_rule o (message_of o.edition y x)) t)
 
 -- 17
 pub only_cars : (o : Configuration) (m : Message) (x : Beside) → OneOf (1 ∷ 3 ∷ 7 ∷ 9 ∷ []) (tag_of the_type m) → no 17 ≡ addressed_rule o (message_of o.edition m x)
@@ -110,15 +100,15 @@ only_cars o (SlacMatchCnf s c r n k) x t = refl
 only_cars o (AttenProfileInd m s c n) x t = absurd (miss (1 ∷ 3 ∷ 7 ∷ 9 ∷ []) 10 tt t)
 
 -- VALIDATE.REQ to all, and to one station
-module _ (o : Configuration) (c : CarAddress) (d : Receiver) (n : ℕ) (j : Judged) where
+module _ (o : Configuration) (c : CarAddress) (d : Receiver) (n : ℕ) (j : Result judge.Asking Refusal) where
   pub to_all_lem : d.0 ≡ table.broadcast → j ≡ for_us (true && not_us o c) c (requests.Own (ValidateSecond n)) → (x : Beside) → judged_of j x ≡ addressed_rule o (message_of o.edition (ValidateReq c n d) x)
   to_all_lem e q x =
-      ap (λ (y : Judged). judged_of y x) q ∙ for_us_rule_lem (true && not_us o c) c (requests.Own (ValidateSecond n)) x
+      ap (λ (y : Result judge.Asking Refusal). judged_of y x) q ∙ for_us_rule_lem (true && not_us o c) c (requests.Own (ValidateSecond n)) x
       ∙ sym (ap (λ (b : Bool). for_us_rule o (from_car c.0 d.0 c.0 (for_record (cond b (validate_second n) validate_first)))) (eq-eqb d.0 table.broadcast e))
 
   pub to_one : (d.0 ≡ table.broadcast → ⊥) → j ≡ for_us (eqb d.0 o.address.0 && not_us o c) c requests.ValidateFirst → (x : Beside) → judged_of j x ≡ addressed_rule o (message_of o.edition (ValidateReq c n d) x)
   to_one e q x =
-      ap (λ (y : Judged). judged_of y x) q ∙ for_us_rule_lem (eqb d.0 o.address.0 && not_us o c) c requests.ValidateFirst x
+      ap (λ (y : Result judge.Asking Refusal). judged_of y x) q ∙ for_us_rule_lem (eqb d.0 o.address.0 && not_us o c) c requests.ValidateFirst x
       ∙ sym (ap (λ (b : Bool). for_us_rule o (from_car c.0 d.0 c.0 (for_record (cond b (validate_second n) validate_first)))) (ne_eqb d.0 table.broadcast e))
 
 -- AMP_MAP.REQ by its addresses: 7
@@ -134,10 +124,6 @@ module _ (o : Configuration) (d f n : ℕ) where
 
   pub map_not_for_us : ours ≡ false → no 7 ≡ for_us_rule o (map_in (yes (requested d f n)))
   map_not_for_us h = sym (map_tests false h)
-
--- what `map_addressed` gives, of the answer a that was found to be b
-pub map_as_lem : (o : Configuration) (a b : map_answers.ReadAnswer) (y : Checked Asking) → a ≡ b → y ≡ for_us_rule o (map_in (maps.answer_of b)) → y ≡ for_us_rule o (map_in (maps.answer_of a))
-map_as_lem o a b y t h = h ∙ sym (ap (λ (z : map_answers.ReadAnswer). for_us_rule o (map_in (maps.answer_of z))) t)
 
 -- ---- of whatever message
 

@@ -13,8 +13,8 @@ use Rattle.messages.specs.Answers.{number_of}
 use Rattle.messages.specs.Reading.{Checked, no, yes, check}
 use Rattle.messages.specs.Table.{is_unicast}
 use Rattle.amplitude.specs.Writing.{length_in, write_rules}
-use Rattle.ends.specs.declared.Answer.{Answer}
-use Rattle.ends.specs.declared.Answer.TheVariants.{Refused}
+use Rattle.std.specs.Prelude.{Result, Err}
+use Rattle.ends.specs.declared.Done as code
 use Rattle.ends.specs.declared.Indication.TheVariants.{Nothing}
 use Rattle.ends.specs.Lists.{joins}
 use Rattle.ends.specs.Outcomes.{Outcome, outcome_of}
@@ -30,11 +30,11 @@ use Rattle.rules.specs.declared.State.TheVariants.{Matched}
 use Rattle.receiving.specs.Maps.{confirmation, confirms, map_answer}
 
 -- an outcome in other words
-pub says_as : (x y : Outcome) (entry exit : List ℕ) (r : Answer) → x ≡ y → Says x entry exit r → Says y entry exit r
+pub says_as : (x y : Outcome) (entry exit : List ℕ) (r : Result code.Done Refusal) → x ≡ y → Says x entry exit r → Says y entry exit r
 says_as x y entry exit r e h = subst (λ (o : Outcome). Says o entry exit r) e h
 
 -- a refusal leaves the output
-pub says_refused : (o : Outcome) (n : Refusal) (out : List ℕ) → o ≡ no (number_of n) → Says o out out (Refused n)
+pub says_refused : (o : Outcome) (n : Refusal) (out : List ℕ) → o ≡ no (number_of n) → Says o out out (Err n)
 unfolding splice joins
 says_refused o n out e = rw e (record { answer = refl; octets = refl })
 

@@ -2,7 +2,6 @@
 use Rattle.std.specs.Prelude.{ℕ, Bool, not, [], ◌∷◌}
 use Rattle.messages.specs.declared.Edition.{Edition}
 use Rattle.messages.specs.declared.RunId.{RunId}
-use Rattle.messages.specs.Answers.{number_of}
 use Rattle.messages.specs.Reading.{Checked, no, yes, check, Beside}
 use Rattle.rules.specs.declared.Record.{Record}
 use Rattle.rules.specs.Records.{is_empty}
@@ -10,8 +9,6 @@ use Rattle.rules.specs.Frames.{Kept, Place, own_place, free_place, is_later, pro
 use Rattle.records.specs.declared.find.Found.{Found}
 use Rattle.records.specs.declared.find.Found.TheVariants as found
 use Rattle.records.specs.Requests.{run_rule}
-use Rattle.receiving.specs.declared.admission.Admission.{Admission}
-use Rattle.receiving.specs.declared.admission.Admission.TheVariants as admission
 use Rattle.receiving.specs.declared.judge.OwnMessage.{OwnMessage}
 use Rattle.receiving.specs.declared.judge.OwnMessage.TheVariants.{Run, Profile, ValidateSecond}
 
@@ -34,11 +31,6 @@ later_at e p = is_later e (place_found p)
 -- before that 21, where its run is empty
 abbrev pub admission_rule : RunId → Found → Bool → Checked ℕ
 admission_rule run p is_open = check (not (is_empty run)) 21 (place_rule p is_open)
-
--- what the code's answer says of it
-abbrev pub admission_of : Admission → Checked ℕ
-admission_of (admission.At i) = yes i
-admission_of (admission.Refused x) = no (number_of x)
 
 -- in an edition, START, SOUND, RSP, PROFILE or the second VALIDATE.REQ at a record, with b beside it
 abbrev pub own_rule : Edition → OwnMessage → Beside → Record → Checked Kept

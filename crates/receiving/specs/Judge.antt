@@ -1,10 +1,8 @@
 -- What is decided of a frame before the state and the records are looked at.
-use Rattle.std.specs.Prelude.{ℕ, Bool, true, false, List, leb}
+use Rattle.std.specs.Prelude.{ℕ, Bool, true, false, List, leb, Result, Ok, Err}
 use Rattle.messages.specs.declared.CarAddress.{CarAddress}
-use Rattle.messages.specs.declared.ReadAnswer.{ReadAnswer}
-use Rattle.messages.specs.declared.ReadAnswer.TheVariants as read_answer
 use Rattle.messages.specs.declared.Refusal.{Refusal}
-use Rattle.messages.specs.declared.Refusal.TheVariants.{TooShort, NotForUs}
+use Rattle.messages.specs.declared.Refusal.TheVariants.{NotForUs}
 use Rattle.messages.specs.Answers.{number_of}
 use Rattle.messages.specs.Reading.{Checked, no, yes, check, Beside, read_rules}
 use Rattle.messages.specs.Table.{Message}
@@ -15,10 +13,8 @@ use Rattle.rules.specs.Constants.{least_output}
 use Rattle.ends.specs.Outcomes.{and_then}
 use Rattle.rules.specs.Received.{RecordMessage, parm_req, start, sound, profile, rsp, validate_first, validate_second, Request, for_record, match_req, map_req, Received, message_as, map_in, is_for_us}
 use Rattle.records.specs.declared.requests.RunMessage.TheVariants.{Start, Sound, Rsp}
-use Rattle.receiving.specs.declared.judge.Judged.{Judged}
-use Rattle.receiving.specs.declared.judge.Judged.TheVariants as judged
-use Rattle.receiving.specs.declared.judge.MapJudged.{MapJudged}
-use Rattle.receiving.specs.declared.judge.MapJudged.TheVariants as map_judged
+use Rattle.receiving.specs.declared.judge.Asking as judge
+use Rattle.receiving.specs.declared.judge.MapAsking as map_judge
 use Rattle.receiving.specs.declared.judge.OwnMessage.{OwnMessage}
 use Rattle.receiving.specs.declared.judge.OwnMessage.TheVariants.{Run, Profile, ValidateSecond}
 use Rattle.receiving.specs.declared.judge.Request as code
@@ -72,21 +68,16 @@ request_of request.ValidateFirst b = for_record validate_first
 request_of (request.Match run) b = match_req run b.first b.second
 
 -- what judging answered, with b beside it
-abbrev pub judged_of : Judged → Beside → Checked Asking
-judged_of (judged.Refused x) b = no (number_of x)
-judged_of (judged.Taken c m) b = yes (record { car = c; request = request_of m b })
+abbrev pub judged_of : Result judge.Asking Refusal → Beside → Checked Asking
+judged_of (Err x) b = no (number_of x)
+judged_of (Ok a) b = yes (record { car = a.car; request = request_of a.request b })
 
 -- the same of amplitude maps
-abbrev pub map_judged_of : MapJudged → Checked Asking
-map_judged_of (map_judged.Refused x) = no (number_of x)
-map_judged_of (map_judged.Asked c n) = yes (record { car = c; request = map_req n })
-
--- the refusal of an answer that is one
-abbrev pub refusal_in : ReadAnswer → Refusal
-refusal_in (read_answer.Refused x) = x
-refusal_in (read_answer.Read m) = TooShort
+abbrev pub map_judged_of : Result map_judge.MapAsking Refusal → Checked Asking
+map_judged_of (Err x) = no (number_of x)
+map_judged_of (Ok a) = yes (record { car = a.car; request = map_req a.carriers })
 
 -- a car's request where it is for us, else 7
-unfoldable pub for_us : Bool → CarAddress → code.Request → Judged
-for_us true c m = judged.Taken c m
-for_us false c m = judged.Refused NotForUs
+unfoldable pub for_us : Bool → CarAddress → code.Request → Result judge.Asking Refusal
+for_us true c m = Ok (record { car = c; request = m })
+for_us false c m = Err NotForUs

@@ -2,13 +2,12 @@
 ghost use Rattle.std.specs.Prelude.{◌≡◌, ◌&&◌, eqb};
 ghost use Rattle.messages.specs.Answers.{number_of, message_of};
 ghost use Rattle.messages.specs.Reading.{Beside, beside_of, read_rules};
-ghost use Rattle.amplitude.specs.Answers.{answer_of};
 ghost use Rattle.amplitude.specs.Reading.{requested};
-ghost use Rattle.rules.specs.Received.{not_us, map_as, map_in};
-ghost use Rattle.receiving.specs.Judge.{refusal_in, judged_of, map_judged_of, for_us, for_us_rule, addressed_rule, judge_rule, map_judge_rule};
+ghost use Rattle.rules.specs.Received.{not_us, map_as};
+ghost use Rattle.receiving.specs.Judge.{judged_of, map_judged_of, for_us, for_us_rule, addressed_rule, judge_rule, map_judge_rule};
 
-use amplitude::{ReadAnswer as MapAnswer, Receiver as MapReceiver, Sender};
-use messages::{BROADCAST, CarAddress, Message, ReadAnswer, Receiver, Refusal, RunId};
+use amplitude::{MapMessage, Sender};
+use messages::{BROADCAST, CarAddress, Message, Receiver, Refusal, RunId};
 use records::requests::RunMessage;
 use rules::{Configuration, LEAST_OUTPUT};
 
@@ -29,46 +28,41 @@ pub enum Request {
     Match(RunId),
 }
 
-// A refusal, or a car's request.
+// A request, and the car that asks.
 #[derive(Clone, Copy)]
-pub enum Judged {
-    Refused(Refusal),
-    Taken { car: CarAddress, request: Request },
+pub struct Asking {
+    pub car: CarAddress,
+    pub request: Request,
 }
 
-// A refusal, or AMP_MAP.REQ of a car with its number of carriers.
+// AMP_MAP.REQ of a car, with its number of carriers.
 #[derive(Clone, Copy)]
-pub enum MapJudged {
-    Refused(Refusal),
-    Asked { car: CarAddress, carriers: usize },
+pub struct MapAsking {
+    pub car: CarAddress,
+    pub carriers: usize,
 }
 
-// The number of the refusal of a type that is in no row of the table.
-const UNKNOWN_TYPE: u32 = 3;
-
-// The refusal of an answer that is one.
-fn refusal_in(answer: ReadAnswer) -> Refusal
-    ensures { result ≡ refusal_in answer }
+// Whether a car is neither us nor our modem. The three addresses are of three types, so here and below their numbers are compared.
+fn is_not_us(config: Configuration, car: CarAddress) -> bool
+    ensures { result ≡ not_us config car }
 {
-    match answer {
-        ReadAnswer::Refused(refusal) => refusal,
-        ReadAnswer::Read(_) => Refusal::TooShort,
-    }
+    car.0 != config.address.0 && car.0 != config.modem.0
 }
 
 // 7, where a frame does not go to us, or its car is us or our modem.
-fn for_us(config: Configuration, ours: bool, car: CarAddress, request: Request) -> Judged
+#[tactic(auto, unfolding(crate::specs::Judge::for_us))]
+fn for_us(
+    config: Configuration,
+    ours: bool,
+    car: CarAddress,
+    request: Request,
+) -> Result<Asking, Refusal>
     ensures { result ≡ for_us (ours && not_us config car) car request }
 {
-    let us = config.address;
-    let modem = config.modem;
-    if ours & (!(car.0 == us.0) & !(car.0 == modem.0)) {
-        Judged::Taken {
-            car: car,
-            request: request,
-        }
+    if ours && is_not_us(config, car) {
+        Ok(Asking { car, request })
     } else {
-        Judged::Refused(Refusal::NotForUs)
+        Err(Refusal::NotForUs)
     }
 }
 
@@ -76,17 +70,18 @@ fn for_us(config: Configuration, ours: bool, car: CarAddress, request: Request) 
 fn of_run(run: RunId, message: RunMessage) -> Request
     ensures { result ≡ Request.Own (OwnMessage.Run run message) }
 {
-    Request::Own(OwnMessage::Run {
-        run: run,
-        message: message,
-    })
+    Request::Own(OwnMessage::Run { run, message })
 }
 
 // VALIDATE.REQ by its destination: the second goes to all, the first to one station.
-fn validate_req(config: Configuration, car: CarAddress, receiver: Receiver, timer: u8) -> Judged
+fn validate_req(
+    config: Configuration,
+    car: CarAddress,
+    receiver: Receiver,
+    timer: u8,
+) -> Result<Asking, Refusal>
     ensures { (b : Beside) → judged_of result b ≡ addressed_rule config (message_of config.edition (Message.ValidateReq car timer receiver) b) }
 {
-    let us = config.address;
     if receiver.0 == BROADCAST {
         for_us(
             config,
@@ -95,16 +90,20 @@ fn validate_req(config: Configuration, car: CarAddress, receiver: Receiver, time
             Request::Own(OwnMessage::ValidateSecond(timer)),
         )
     } else {
-        for_us(config, receiver.0 == us.0, car, Request::ValidateFirst)
+        for_us(
+            config,
+            receiver.0 == config.address.0,
+            car,
+            Request::ValidateFirst,
+        )
     }
 }
 
 // By the message: 17 where only a car receives it, then 7.
-fn addressed(config: Configuration, message: Message) -> Judged
+fn addressed(config: Configuration, message: Message) -> Result<Asking, Refusal>
     ensures { (b : Beside) → judged_of result b ≡ addressed_rule config (message_of config.edition message b) }
 {
     let us = config.address;
-    let modem = config.modem;
     match message {
         Message::SlacParmReq { car, run } => for_us(config, true, car, Request::Parm(run)),
         Message::StartAttenCharInd { car, attempt, run } => {
@@ -114,11 +113,10 @@ fn addressed(config: Configuration, message: Message) -> Judged
             car,
             count,
             run,
-            random: _,
+            ..
         } => for_us(config, true, car, of_run(run, RunMessage::Sound(count))),
         Message::AttenCharRsp { car, station, run } => {
-            let ours = station.0 == us.0;
-            for_us(config, ours, car, of_run(run, RunMessage::Rsp))
+            for_us(config, station.0 == us.0, car, of_run(run, RunMessage::Rsp))
         }
         Message::ValidateReq {
             car,
@@ -129,15 +127,15 @@ fn addressed(config: Configuration, message: Message) -> Judged
             for_us(config, station.0 == us.0, car, Request::Match(run))
         }
         Message::AttenProfileInd {
-            modem: source,
+            modem,
             station,
             car,
             count,
         } => {
-            let ours = (station.0 == us.0) & (source.0 == modem.0);
+            let ours = (station.0 == us.0) & (modem == config.modem);
             for_us(config, ours, car, Request::Own(OwnMessage::Profile(count)))
         }
-        _ => Judged::Refused(Refusal::OnlyForCars),
+        _ => Err(Refusal::OnlyForCars),
     }
 }
 
@@ -145,72 +143,50 @@ fn addressed(config: Configuration, message: Message) -> Judged
 pub fn is_unknown(refusal: Refusal) -> bool
     ensures { result ≡ eqb (number_of refusal) 3 }
 {
-    messages::refusal_number(refusal) == UNKNOWN_TYPE
+    refusal == Refusal::UnknownType
 }
 
 // All that needs neither the state nor a record, in its order; a type that is none of the eleven messages' is refused with 3.
-pub fn judge(config: Configuration, octets: &[u8], room: usize) -> Judged
+pub fn judge(config: Configuration, octets: &[u8], room: usize) -> Result<Asking, Refusal>
     ensures { judged_of result (beside_of (read_rules config.edition octets.now)) ≡ judge_rule config room octets.now }
 {
-    let good = config.good;
-    if !good {
-        return Judged::Refused(Refusal::BadConfiguration);
+    if !config.good {
+        return Err(Refusal::BadConfiguration);
     }
     if room < LEAST_OUTPUT {
-        return Judged::Refused(Refusal::OutputTooShort);
+        return Err(Refusal::OutputTooShort);
     }
-    let edition = config.edition;
-    let answer = messages::read(edition, octets);
-    let ReadAnswer::Read(message) = answer else {
-        return Judged::Refused(refusal_in(answer));
-    };
+    let message = messages::read(config.edition, octets)?;
     addressed(config, message)
 }
 
 // AMP_MAP.REQ to a station: 7, where that is another one, or the car is us or our modem.
 fn map_req(
     config: Configuration,
-    receiver: MapReceiver,
+    receiver: Receiver,
     sender: Sender,
     carriers: usize,
-) -> MapJudged
+) -> Result<MapAsking, Refusal>
     ensures { map_judged_of result ≡ for_us_rule config (map_as (requested receiver.0 sender.0 carriers)) }
 {
-    let us = config.address;
-    let modem = config.modem;
-    let ours = receiver.0 == us.0;
-    if ours & (!(sender.0 == us.0) & !(sender.0 == modem.0)) {
-        MapJudged::Asked {
-            car: CarAddress(sender.0),
-            carriers: carriers,
-        }
-    } else {
-        MapJudged::Refused(Refusal::NotForUs)
+    let car = CarAddress(sender.0);
+    if !(receiver.0 == config.address.0 && is_not_us(config, car)) {
+        return Err(Refusal::NotForUs);
     }
+    Ok(MapAsking { car, carriers })
 }
 
-// What a message of amplitude maps is to us: 17 for AMP_MAP.CNF, which we never ask for.
-fn map_addressed(config: Configuration, answer: MapAnswer) -> MapJudged
-    ensures { map_judged_of result ≡ for_us_rule config (map_in (answer_of answer)) }
+// A frame whose type is none of the eleven messages': it may be one of amplitude maps; 17 for AMP_MAP.CNF, which we never ask for.
+pub fn judge_map(config: Configuration, octets: &[u8]) -> Result<MapAsking, Refusal>
+    ensures { map_judged_of result ≡ map_judge_rule config octets.now }
 {
-    match answer {
-        MapAnswer::AmpMapReq {
+    let message = amplitude::read(octets)?;
+    match message {
+        MapMessage::AmpMapReq {
             receiver,
             sender,
             carriers,
         } => map_req(config, receiver, sender, carriers),
-        MapAnswer::AmpMapCnf {
-            receiver: _,
-            sender: _,
-            success: _,
-        } => MapJudged::Refused(Refusal::OnlyForCars),
-        MapAnswer::Refused(refusal) => MapJudged::Refused(refusal),
+        MapMessage::AmpMapCnf { .. } => Err(Refusal::OnlyForCars),
     }
-}
-
-// A frame whose type is none of the eleven messages': it may be one of amplitude maps.
-pub fn judge_map(config: Configuration, octets: &[u8]) -> MapJudged
-    ensures { map_judged_of result ≡ map_judge_rule config octets.now }
-{
-    map_addressed(config, amplitude::read(octets))
 }

@@ -11,14 +11,11 @@ use rules::{Configuration, Record, tries};
 pub fn parm_cnf(config: Configuration, car: CarAddress, later: bool, run: RunId) -> Message
     ensures { (b : Beside) → message_of config.edition result b ≡ message_to config car (parm_cnf later run) }
 {
-    let us = config.address;
-    let edition = config.edition;
-    let pair = tries::pair(edition, later);
     Message::SlacParmCnf {
-        station: us,
-        car: car,
-        attempt: Attempt(pair),
-        run: run,
+        station: config.address,
+        car,
+        attempt: Attempt(tries::pair(config.edition, later)),
+        run,
     }
 }
 
@@ -26,16 +23,12 @@ pub fn parm_cnf(config: Configuration, car: CarAddress, later: bool, run: RunId)
 pub fn report(config: Configuration, car: CarAddress, r: Record) -> Message
     ensures { message_of config.edition result (record { groups = map (mean r.profiles) r.sums; first = no_id; second = no_id }) ≡ message_to config car (report_of r) }
 {
-    let us = config.address;
-    let run = r.run;
-    let edition = config.edition;
-    let count = tries::groups_in(edition, r.groups);
     Message::AttenCharInd {
-        station: us,
-        car: car,
-        run: run,
+        station: config.address,
+        car,
+        run: r.run,
         sounds: r.profiles,
-        count: count,
+        count: tries::groups_in(config.edition, r.groups),
     }
 }
 
@@ -43,11 +36,10 @@ pub fn report(config: Configuration, car: CarAddress, r: Record) -> Message
 pub fn validate_cnf(config: Configuration, car: CarAddress, toggles: u8, res: u8) -> Message
     ensures { (b : Beside) → message_of config.edition result b ≡ message_to config car (confirmation toggles res) }
 {
-    let us = config.address;
     Message::ValidateCnf {
-        station: us,
-        car: car,
-        toggles: toggles,
+        station: config.address,
+        car,
+        toggles,
         result: res,
     }
 }
@@ -56,14 +48,11 @@ pub fn validate_cnf(config: Configuration, car: CarAddress, toggles: u8, res: u8
 pub fn match_cnf(config: Configuration, car: CarAddress, run: RunId) -> Message
     ensures { (b : Beside) → message_of config.edition result b ≡ message_to config car (match_cnf run b.first b.second) }
 {
-    let us = config.address;
-    let nid = config.nid;
-    let nmk = config.nmk;
     Message::SlacMatchCnf {
-        station: us,
-        car: car,
-        run: run,
-        nid: nid,
-        nmk: nmk,
+        station: config.address,
+        car,
+        run,
+        nid: config.nid,
+        nmk: config.nmk,
     }
 }

@@ -18,12 +18,12 @@ use Rattle.records.specs.Heard.{set_size, marking}
 
 -- ---- the test
 
--- a digit of a number that is too small to have it
-pub beyond : (n k h : ℕ) → n ≤ k → h < 2 ^ n → false ≡ is_in k h
+-- a set has no digit past those that it can hold
+pub beyond : (k h : ℕ) → set_size ≤ k → h < 2 ^ set_size → ltb k set_size ≡ is_in k h
 unfolding is_in
-beyond n k h l b =
+beyond k h l b =
     let z : h / 2 ^ k ≡ 0 = div-eq_of_lt (lt_of_lt_of_le b (pow_mono l)) in
-    sym (ne_eqb (h / 2 ^ k % 2) 1 (λ (e : h / 2 ^ k % 2 ≡ 1). omega arith))
+    le-ltb k set_size l ∙ sym (ne_eqb (h / 2 ^ k % 2) 1 (λ (e : h / 2 ^ k % 2 ≡ 1). omega arith))
 
 -- a digit that is not 1
 even : (k h : ℕ) → is_in k h ≡ false → h / 2 ^ k % 2 ≡ 0

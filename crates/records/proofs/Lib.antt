@@ -2,9 +2,7 @@ pub mod HeardLaws
 pub mod LoopLaws
 pub mod FillLaws
 pub mod ProfileLaws
-pub mod RequestLaws
 pub mod PlaceLaws
-pub mod SeekLaws
 pub mod MeanLaws
 pub mod TimerLaws
 pub mod ValidationLaws

@@ -1,15 +1,15 @@
 -- A mean by one multiplication and one shift, for every number of profiles that the table has and every sum that they can have.
 use Prim.Native.Nat.{ℕ, zero, suc, ◌+◌, ◌-◌, ◌*◌, ◌^◌, ◌/◌, ◌%◌, ◌<◌, ◌≤◌}
-use mathlib.Core.Path.{◌≡◌, ap, sym, subst, ◌∙◌}
+use mathlib.Core.Path.{◌≡◌, ap, sym, ◌∙◌}
 use mathlib.Core.List.{List, [], ◌∷◌}
 use native.Mathlib.Omega.{arith}
 use native.Mathlib.Nat.{div-zero, div-lt_iff_lt-mul, div-add-mod', mod-lt, mul-zero, mul-le-mul_left, mul-le-mul_right, add-zero, add-suc, suc-add, le_of_suc-le-suc, not-suc-le-zero}
 use lib.ListN.{get_or}
 use Rattle.rules.specs.Replies.{mean}
-use Rattle.records.specs.Means.{most_profiles, reciprocal}
+use Rattle.records.specs.Means.{most_profiles, Summed, reciprocal}
 
 -- a sum's mean over n profiles, by one product of a sum and half of n with a factor, and one shift
-pub record Scales (n sum factor : ℕ) : Type 0 where
+record Scales (n sum factor : ℕ) : Type 0 where
   pub room : (sum + n / 2) * factor < 2 ^ 24
   pub same : (sum + n / 2) * factor / 2 ^ 16 ≡ mean n sum
 
@@ -57,8 +57,12 @@ scales : (n sum : ℕ) → n ≤ most_profiles → sum ≤ 255 * n → Scales n 
 scales zero sum high few = scales_none sum
 scales (suc n) sum high few = scales_some (suc n) sum (omega arith) high (few_some (suc n) sum (omega arith) few)
 
-pub mean_scales : (n sum factor : ℕ) → factor ≡ reciprocal n → n ≤ most_profiles → sum ≤ 255 * n → Scales n sum factor
-mean_scales n sum factor e high few = subst (Scales n sum) (sym e) (scales n sum high few)
+-- at each sum of n profiles, with half of n and with n's reciprocal
+pub mean_scales : (n half factor : ℕ) (sums : List ℕ) → half ≡ n / 2 → factor ≡ reciprocal n → Summed n sums → (i : ℕ)
+    → ((get_or sums i 0 + half) * factor < 2 ^ 24) × ((get_or sums i 0 + half) * factor / 2 ^ 16 ≡ mean n (get_or sums i 0))
+mean_scales n half factor sums h e few i =
+    let w : Scales n (get_or sums i 0) (reciprocal n) = scales n (get_or sums i 0) few.0 (few.1 i) in
+    rw (h, e) (w.room, w.same)
 
 -- the reciprocals of k numbers from n on
 abbrev pub reciprocals : ℕ → ℕ → List ℕ

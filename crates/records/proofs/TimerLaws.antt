@@ -4,7 +4,7 @@ use mathlib.Core.Path.{◌≡◌, refl, sym, ap, subst, ◌∙◌}
 use mathlib.Core.Bool.{Bool, true, false, cond}
 use mathlib.Core.List.{List, [], ◌∷◌}
 use native.Mathlib.Omega.{arith}
-use borrow.Author.Tests.{le-leb, lt-leb, eq-eqb, ne_eqb, eqb-false}
+use borrow.Author.Tests.{ne_eqb, eqb-false}
 use lib.Dec.{eqb, leb}
 use lib.ListN.{length}
 use Rattle.messages.specs.declared.Edition.{Edition}
@@ -12,14 +12,13 @@ use Rattle.rules.specs.declared.Configuration.{Configuration}
 use Rattle.rules.specs.declared.Phase.{Phase}
 use Rattle.rules.specs.declared.Phase.TheVariants.{Asked, Sounding, Reported, Awaiting, Ready, Counting, Success}
 use Rattle.rules.specs.declared.Record.{Record}
-use Rattle.rules.specs.Constants.{success_time}
 use Rattle.rules.specs.Records.{is_held}
 use Rattle.ends.specs.Lists.{only}
 use Rattle.rules.specs.Replies.{Reply, confirmation, report_of, is_report, is_confirmation, frame_to, frames_to}
-use Rattle.rules.specs.Ticks.{Ticked, runs_out, waits, fires, window_ends, tick_phase, record_of, replies_of, tick_record, tick_frames}
+use Rattle.rules.specs.Ticks.{Ticked, waits, fires, window_ends, tick_phase, replies_of, tick_frames}
 use Rattle.rules.specs.Invariant.{InPhase, GoodRecord}
 use Rattle.ends.proofs.Logic.{split, clash}
-use Rattle.records.specs.declared.timers.AfterTick.{AfterTick}
+use Rattle.records.specs.declared.changes.Kept.{Kept}
 use Rattle.records.specs.Timers.{any_sent, tick_replies, after_tick, after_held, time_of, with_left, fired_of}
 
 -- ---- a phase by its time
@@ -35,57 +34,9 @@ by_time b e r (Ready t) = refl
 by_time b e r (Counting t k g) = refl
 by_time b e r (Success t) = refl
 
-module _ (b : Bool) (e : ℕ) (r : Record) (left : ℕ) (l : left ≡ time_of r.phase - e) (t : AfterTick) where
-  -- a time of which nothing is left fires
-  pub time_fires : left ≡ 0 → t ≡ after_held r (fired_of b r r.phase) → t ≡ after_held r (tick_phase b e r r.phase)
-  time_fires z q =
-      let h : leb (time_of r.phase) e ≡ true = le-leb (time_of r.phase) e (omega arith) in
-      q
-      ∙ sym (ap (after_held r) (by_time b e r r.phase ∙ ap (λ (x : Bool). cond x (fired_of b r r.phase) (waits (with_left (time_of r.phase - e) r.phase) r)) h))
-
-  -- and else the phase is left with it
-  pub time_runs : (left ≡ 0 → ⊥) → t ≡ after_held r (waits (with_left left r.phase) r) → t ≡ after_held r (tick_phase b e r r.phase)
-  time_runs z q =
-      let h : leb (time_of r.phase) e ≡ false = lt-leb (time_of r.phase) e (omega arith) in
-      q
-      ∙ ap (λ (n : ℕ). after_held r (waits (with_left n r.phase) r)) l
-      ∙ sym (ap (after_held r) (by_time b e r r.phase ∙ ap (λ (x : Bool). cond x (fired_of b r r.phase) (waits (with_left (time_of r.phase - e) r.phase) r)) h))
-
--- what is chosen by a test of a count
-module _ (r : Record) (n : ℕ) (x y : Ticked) (t : AfterTick) where
-  -- a count that is used up
-  pub none_left : n ≡ 0 → t ≡ after_held r x → t ≡ after_held r (cond (eqb n 0) x y)
-  none_left e q = q ∙ ap (λ (b : Bool). after_held r (cond b x y)) (sym (eq-eqb n 0 e))
-
-  -- a count that is not
-  pub some_left : (n ≡ 0 → ⊥) → t ≡ after_held r y → t ≡ after_held r (cond (eqb n 0) x y)
-  some_left e q = q ∙ ap (λ (b : Bool). after_held r (cond b x y)) (sym (ne_eqb n 0 e))
-
--- the end of a window, by the pilot
-module _ (b : Bool) (k : ℕ) (r : Record) where
-  pub window_success : b ≡ true → after_held r (waits (Success success_time) r) ≡ after_held r (window_ends b k r)
-  unfolding after_held record_of replies_of window_ends only is_report
-  window_success h = rw h
-
-  pub window_failure : b ≡ false → after_held r runs_out ≡ after_held r (window_ends b k r)
-  unfolding after_held record_of replies_of window_ends only is_report
-  window_failure h = rw h
-
--- ---- a record, held or free
-
--- what is chosen by whether it is held
-choose : Record → Ticked → Bool → AfterTick
-choose r x b = record { after = cond b (record_of r x) r; reports = any_sent (only is_report (cond b (replies_of x) [])) }
-
--- a free record stays as it is
-pub tick_free : (b : Bool) (e : ℕ) (r : Record) → r.held ≡ false → record { after = r; reports = false } ≡ after_tick b e r
-unfolding after_tick tick_record tick_replies is_held choose only
-tick_free b e r h = sym (ap (choose r (tick_phase b e r r.phase)) h)
-
--- a held one is what its phase comes to
-pub tick_held : (b : Bool) (e : ℕ) (r : Record) (t : AfterTick) → r.held ≡ true → t ≡ after_held r (tick_phase b e r r.phase) → t ≡ after_tick b e r
-unfolding after_tick tick_record tick_replies after_held is_held choose
-tick_held b e r t h q = q ∙ sym (ap (choose r (tick_phase b e r r.phase)) h)
+-- what is chosen where a count is not used up
+pub some_left : (r : Record) (n : ℕ) (x y : Ticked) (t : Kept) → (n ≡ 0 → ⊥) → t ≡ after_held r y → t ≡ after_held r (cond (eqb n 0) x y)
+some_left r n x y t e q = q ∙ ap (λ (b : Bool). after_held r (cond b x y)) (sym (ne_eqb n 0 e))
 
 -- ---- what is sent
 

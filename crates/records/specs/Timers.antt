@@ -8,7 +8,7 @@ use Rattle.rules.specs.Records.{is_held}
 use Rattle.ends.specs.Lists.{only}
 use Rattle.rules.specs.Replies.{Reply, is_report}
 use Rattle.rules.specs.Ticks.{Ticked, runs_out, window_ends, reports, tick_phase, record_of, replies_of, tick_record}
-use Rattle.records.specs.declared.timers.AfterTick.{AfterTick}
+use Rattle.records.specs.declared.changes.Kept.{Kept}
 
 -- something is sent
 abbrev pub any_sent : List Reply → Bool
@@ -20,12 +20,12 @@ unfoldable pub tick_replies : Bool → ℕ → Record → List Reply
 tick_replies b e r = cond (is_held r) (replies_of (tick_phase b e r r.phase)) []
 
 -- the record after e milliseconds, and whether it reports
-unfoldable pub after_tick : Bool → ℕ → Record → AfterTick
-after_tick b e r = record { after = tick_record b e r; reports = any_sent (only is_report (tick_replies b e r)) }
+unfoldable pub after_tick : Bool → ℕ → Record → Kept
+after_tick b e r = record { kept = tick_record b e r; reports = any_sent (only is_report (tick_replies b e r)) }
 
 -- the same of a held record, by what its phase comes to
-unfoldable pub after_held : Record → Ticked → AfterTick
-after_held r x = record { after = record_of r x; reports = any_sent (only is_report (replies_of x)) }
+unfoldable pub after_held : Record → Ticked → Kept
+after_held r x = record { kept = record_of r x; reports = any_sent (only is_report (replies_of x)) }
 
 -- ---- a phase by its time
 

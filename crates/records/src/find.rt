@@ -1,14 +1,11 @@
 // Where a car's record stands among the records of a station.
 ghost use Rattle.std.specs.Prelude.{◌≡◌};
-ghost use Rattle.records.specs.Places.{or_free, place_of};
+ghost use Rattle.records.specs.Places.{free_place, own_place, place_of};
 
 use messages::CarAddress;
-use rules::{RECORDS, RecordArray};
+use rules::RecordArray;
 
-// A station's records, side by side.
-pub type Records = RecordArray;
-
-// The place of the car's own record, or else the first free place, or neither.
+// The place of the car's own record, or else the first free place, or neither: three cases, which admission tells apart.
 #[derive(Clone, Copy)]
 pub enum Found {
     Own(usize),
@@ -16,32 +13,29 @@ pub enum Found {
     Nothing,
 }
 
-// The place found so far, or else i where the record there is free.
-pub fn or_free(found: Found, i: usize, held: bool) -> Found
-    ensures { result ≡ or_free found i held }
+// The place of the car's own record.
+fn own_place(records: &RecordArray, car: CarAddress) -> Option<usize>
+    ensures { result ≡ own_place car records.now }
 {
-    let Found::Nothing = found else {
-        return found;
-    };
-    if held { Found::Nothing } else { Found::Free(i) }
+    records.iter().position(|r| rules::holds(car, *r))
+}
+
+// The first free place.
+#[tactic(auto, unfolding(rules::specs::Records::is_held))]
+fn free_place(records: &RecordArray) -> Option<usize>
+    ensures { result ≡ free_place records.now }
+{
+    records.iter().position(|r| !r.held)
 }
 
 // The car's own record wherever it stands, also behind free places; else the first free place.
-pub fn find(records: Records, car: CarAddress) -> Found
+#[tactic(auto, unfolding(crate::specs::Places::place_of))]
+pub fn find(records: RecordArray, car: CarAddress) -> Found
     ensures { result ≡ place_of car records }
 {
-    let mut i: usize = 0;
-    let mut free = Found::Nothing;
-    let found = loop {
-        if RECORDS <= i {
-            break free;
-        }
-        let r = records[i];
-        if rules::holds(car, r) {
-            break Found::Own(i);
-        }
-        free = or_free(free, i, r.held);
-        i = i + 1;
-    };
-    found
+    match (own_place(&records, car), free_place(&records)) {
+        (Some(i), _) => Found::Own(i),
+        (None, Some(i)) => Found::Free(i),
+        (None, None) => Found::Nothing,
+    }
 }

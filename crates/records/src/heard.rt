@@ -5,22 +5,20 @@ ghost use Rattle.rules.specs.Sounds.{is_in};
 ghost use Rattle.records.specs.Heard.{marking};
 
 // Whether a count is in the set.
+#[tactic(auto, using(crate::proofs::HeardLaws::beyond), unfolding(rules::specs::Sounds::is_in))]
 pub fn is_heard(heard: u16, count: u8) -> bool
     ensures { result ≡ is_in count heard }
 {
-    if count < 16 {
-        (heard >> count) % 2 == 1
-    } else {
-        false
-    }
+    count < 16 && (heard >> count) % 2 == 1
 }
 
 // The set with a sound's count marked in it.
+#[tactic(auto, using(crate::proofs::HeardLaws::or_marking, crate::proofs::HeardLaws::not_marking))]
 pub fn mark(heard: u16, count: u8) -> u16
     ensures { result ≡ marking count heard }
 {
     if count < 16 {
-        heard | (1u16 << count)
+        heard | (1 << count)
     } else {
         heard
     }
@@ -30,5 +28,5 @@ pub fn mark(heard: u16, count: u8) -> u16
 pub fn number(heard: u16) -> u32
     ensures { result ≡ ones heard }
 {
-    u16::count_ones(heard)
+    heard.count_ones()
 }

@@ -4,7 +4,7 @@ ghost use Rattle.rules.specs.Replies.{mean};
 ghost use Rattle.records.specs.Means.{most_profiles, Summed, reciprocal};
 
 use messages::{GROUPS, GroupValues};
-use rules::{GroupSums, Record};
+use rules::Record;
 
 // 65,536 divided by each number of profiles from 0 to 16, rounded up; 0 for 0.
 const RECIPROCALS: [u32; 17] = [
@@ -17,8 +17,7 @@ fn reciprocal_of(profiles: u8) -> u32
     requires { profiles ≤ most_profiles }
     ensures { result ≡ reciprocal profiles }
 {
-    let at = profiles as usize;
-    RECIPROCALS[at]
+    RECIPROCALS[usize::from(profiles)]
 }
 
 // A sum and an addend, times a factor, divided by 65,536.
@@ -26,31 +25,20 @@ fn scaled(sum: u16, addend: u16, factor: u32) -> u8
     requires { (sum + addend) * factor < 2 ^ 24 }
     ensures { result ≡ (sum + addend) * factor / 2 ^ 16 }
 {
-    (((sum as u32 + addend as u32) * factor) >> 16) as u8
+    (((u32::from(sum) + u32::from(addend)) * factor) >> 16) as u8
 }
 
 // Each sum, with half the profiles counted, scaled by their reciprocal: its mean, rounded to the nearest, a half upwards; zeros
-// where no profile is counted.
+// where no profile is counted. Not by `map`, by which a report took 2,888 instructions for 1,661.
 pub fn values(r: Record) -> GroupValues
     requires { Summed r.profiles r.sums }
     ensures { result ≡ map (mean r.profiles) r.sums }
 {
-    let sums = r.sums;
-    means(sums, r.profiles)
-}
-
-// Each sum's mean over so many profiles.
-fn means(sums: GroupSums, profiles: u8) -> GroupValues
-    requires { Summed profiles sums }
-    ensures { result ≡ map (mean profiles) sums }
-{
-    let factor = reciprocal_of(profiles);
-    let half = (profiles / 2) as u16;
+    let half = u16::from(r.profiles / 2);
+    let factor = reciprocal_of(r.profiles);
     let mut values = messages::no_groups();
-    let mut i: usize = 0;
-    while i < GROUPS {
-        values[i] = scaled(sums[i], half, factor);
-        i = i + 1;
+    for i in 0..GROUPS {
+        values[i] = scaled(r.sums[i], half, factor);
     }
     values
 }

@@ -1,4 +1,7 @@
 // What a tick does to one record.
+// Record, time and pilot go one by one: `Ticks.tick_record` names each, and a struct would be made for each record of a tick.
+#![tactic(auto, unfolding(crate::specs::Timers::after_tick, crate::specs::Timers::after_held, crate::specs::Timers::tick_replies, rules::specs::Ticks::tick_record, rules::specs::Ticks::tick_phase, rules::specs::Ticks::record_of, rules::specs::Ticks::replies_of, rules::specs::Ticks::window_ends, rules::specs::Records::is_held, rules::specs::Records::owned, rules::specs::Records::in_phase, rules::specs::Records::freed, rules::specs::Replies::report_of, rules::specs::Replies::is_report, ends::specs::Lists::only))]
+
 ghost use Rattle.std.specs.Prelude.{◌≡◌, cond, ◌-◌, eqb};
 ghost use Rattle.ends.specs.Constants.{retry_count};
 ghost use Rattle.rules.specs.Records as records;
@@ -7,40 +10,33 @@ ghost use Rattle.rules.specs.Ticks as ticks;
 ghost use Rattle.rules.specs.Ticks.{runs_out, window_ends, tick_phase};
 ghost use Rattle.records.specs.Timers.{after_tick, after_held, time_of, with_left, fired_of};
 
+use crate::changes::Kept;
 use ends::RETRIES;
 use rules::{Phase, REPORTED_TIME, Record, SUCCESS_TIME};
 
-// A record after a tick, and whether it reports.
-#[derive(Clone, Copy)]
-pub struct AfterTick {
-    pub after: Record,
-    pub reports: bool,
-}
-
 // A record after so many milliseconds, by whether the pilot is back at B: a free one stays as it is.
-pub fn tick_record(r: Record, elapsed: u32, back: bool) -> AfterTick
+pub fn tick_record(r: Record, elapsed: u32, back: bool) -> Kept
     ensures { result ≡ after_tick back elapsed r }
 {
     if r.held {
         tick_held(r, elapsed, back)
     } else {
-        AfterTick {
-            after: r,
+        Kept {
+            kept: r,
             reports: false,
         }
     }
 }
 
 // A held record: its phase's time fires where nothing of it is left, and runs down else.
-fn tick_held(r: Record, elapsed: u32, back: bool) -> AfterTick
+fn tick_held(r: Record, elapsed: u32, back: bool) -> Kept
     ensures { result ≡ after_held r (tick_phase back elapsed r r.phase) }
 {
-    let phase = r.phase;
-    let left = ends::left_after(time_of(phase), elapsed);
+    let left = ends::left_after(time_of(r.phase), elapsed);
     if left == 0 {
         fired(r, back)
     } else {
-        wait(r, with_left(phase, left))
+        wait(r, with_left(r.phase, left))
     }
 }
 
@@ -49,17 +45,13 @@ pub fn time_of(phase: Phase) -> u32
     ensures { result ≡ time_of phase }
 {
     match phase {
-        Phase::Asked(time) => time,
-        Phase::Sounding(time) => time,
-        Phase::Reported { left, retries: _ } => left,
-        Phase::Awaiting(time) => time,
-        Phase::Ready(time) => time,
-        Phase::Counting {
-            left,
-            toggles: _,
-            begun: _,
-        } => left,
-        Phase::Success(time) => time,
+        Phase::Asked(left)
+        | Phase::Sounding(left)
+        | Phase::Reported { left, .. }
+        | Phase::Awaiting(left)
+        | Phase::Ready(left)
+        | Phase::Counting { left, .. }
+        | Phase::Success(left) => left,
     }
 }
 
@@ -70,47 +62,32 @@ fn with_left(phase: Phase, left: u32) -> Phase
     match phase {
         Phase::Asked(_) => Phase::Asked(left),
         Phase::Sounding(_) => Phase::Sounding(left),
-        Phase::Reported { left: _, retries } => Phase::Reported {
-            left: left,
-            retries: retries,
-        },
+        Phase::Reported { retries, .. } => Phase::Reported { left, retries },
         Phase::Awaiting(_) => Phase::Awaiting(left),
         Phase::Ready(_) => Phase::Ready(left),
-        Phase::Counting {
-            left: _,
+        Phase::Counting { toggles, begun, .. } => Phase::Counting {
+            left,
             toggles,
             begun,
-        } => Phase::Counting {
-            left: left,
-            toggles: toggles,
-            begun: begun,
         },
         Phase::Success(_) => Phase::Success(left),
     }
 }
 
 // A held record whose phase's time has fired.
-fn fired(r: Record, back: bool) -> AfterTick
+fn fired(r: Record, back: bool) -> Kept
     ensures { result ≡ after_held r (fired_of back r r.phase) }
 {
-    let phase = r.phase;
-    match phase {
-        Phase::Asked(_) => free(r),
+    match r.phase {
         Phase::Sounding(_) => first_report(r),
-        Phase::Reported { left: _, retries } => next_report(r, retries),
-        Phase::Awaiting(_) => free(r),
-        Phase::Ready(_) => free(r),
-        Phase::Counting {
-            left: _,
-            toggles,
-            begun: _,
-        } => window_over(r, toggles, back),
-        Phase::Success(_) => free(r),
+        Phase::Reported { retries, .. } => next_report(r, retries),
+        Phase::Counting { toggles, .. } => window_over(r, toggles, back),
+        Phase::Asked(_) | Phase::Awaiting(_) | Phase::Ready(_) | Phase::Success(_) => free(r),
     }
 }
 
 // Sounding's time has fired: freed if no profile is counted, else the report.
-fn first_report(r: Record) -> AfterTick
+fn first_report(r: Record) -> Kept
     ensures { result ≡ after_held r (cond (eqb r.profiles 0) runs_out (ticks.reports retry_count r)) }
 {
     if r.profiles == 0 {
@@ -121,7 +98,7 @@ fn first_report(r: Record) -> AfterTick
 }
 
 // Reported's time has fired: freed if no retry is left, else the report again.
-fn next_report(r: Record, retries: u8) -> AfterTick
+fn next_report(r: Record, retries: u8) -> Kept
     ensures { result ≡ after_held r (cond (eqb retries 0) runs_out (ticks.reports (retries - 1) r)) }
 {
     if retries == 0 {
@@ -132,7 +109,7 @@ fn next_report(r: Record, retries: u8) -> AfterTick
 }
 
 // The window has ended: success where the pilot is back at B, else freed.
-fn window_over(r: Record, toggles: u8, back: bool) -> AfterTick
+fn window_over(r: Record, toggles: u8, back: bool) -> Kept
     ensures { result ≡ after_held r (window_ends back toggles r) }
 {
     if back {
@@ -143,40 +120,35 @@ fn window_over(r: Record, toggles: u8, back: bool) -> AfterTick
 }
 
 // The record freed, with no report.
-fn free(r: Record) -> AfterTick
+fn free(r: Record) -> Kept
     ensures { result ≡ after_held r runs_out }
 {
-    let after = freed(r);
-    AfterTick {
-        after: after,
+    Kept {
+        kept: freed(r),
         reports: false,
     }
 }
 
 // The record in a phase, with no report.
-fn wait(r: Record, phase: Phase) -> AfterTick
+fn wait(r: Record, phase: Phase) -> Kept
     ensures { result ≡ after_held r (ticks.waits phase r) }
 {
-    let after = held_in(r, phase);
-    AfterTick {
-        after: after,
+    Kept {
+        kept: held_in(r, phase),
         reports: false,
     }
 }
 
 // The record reported, with so many retries left.
-fn report(r: Record, retries: u8) -> AfterTick
+fn report(r: Record, retries: u8) -> Kept
     ensures { result ≡ after_held r (ticks.reports retries r) }
 {
-    let after = held_in(
-        r,
-        Phase::Reported {
-            left: REPORTED_TIME,
-            retries: retries,
-        },
-    );
-    AfterTick {
-        after: after,
+    let phase = Phase::Reported {
+        left: REPORTED_TIME,
+        retries,
+    };
+    Kept {
+        kept: held_in(r, phase),
         reports: true,
     }
 }
@@ -185,43 +157,16 @@ fn report(r: Record, retries: u8) -> AfterTick
 pub fn freed(r: Record) -> Record
     ensures { result ≡ records.freed r }
 {
-    let car = r.car;
-    let run = r.run;
-    let phase = r.phase;
-    let sums = r.sums;
-    let spread = r.spread;
-    Record {
-        car: car,
-        run: run,
-        held: false,
-        phase: phase,
-        heard: r.heard,
-        profiles: r.profiles,
-        sums: sums,
-        spread: spread,
-        later: r.later,
-        groups: r.groups,
-    }
+    Record { held: false, ..r }
 }
 
 // The record held by its car, in a phase.
 fn held_in(r: Record, phase: Phase) -> Record
     ensures { result ≡ owned r.car (in_phase phase r) }
 {
-    let car = r.car;
-    let run = r.run;
-    let sums = r.sums;
-    let spread = r.spread;
     Record {
-        car: car,
-        run: run,
         held: true,
-        phase: phase,
-        heard: r.heard,
-        profiles: r.profiles,
-        sums: sums,
-        spread: spread,
-        later: r.later,
-        groups: r.groups,
+        phase,
+        ..r
     }
 }

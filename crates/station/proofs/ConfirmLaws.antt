@@ -15,7 +15,7 @@ use Rattle.rules.specs.Ticks.{tick_frames}
 use Rattle.rules.specs.Invariant.{GoodRecord}
 use Rattle.ends.proofs.ListLaws.{all_at}
 use Rattle.records.specs.declared.validation.Confirmation.{Confirmation}
-use Rattle.records.specs.declared.validation.Confirmation.TheVariants as code
+use Rattle.std.specs.Prelude.{Option, None, Some}
 use Rattle.records.specs.Timers.{any_sent, tick_replies}
 use Rattle.records.specs.Validation.{confirmation_of}
 use Rattle.records.proofs.TimerLaws.{frames_sent, sending_held}
@@ -29,17 +29,23 @@ Confirming o b e l entry out k i = Sending (tick_frames is_confirmation o b e) c
 
 -- a turn: the record at i, and what the code found to confirm
 module _ (o : Configuration) (b : Bool) (e : ℕ) (l : List Record) (entry out : List ℕ) (k i : ℕ) (w : Confirming o b e l entry out k i) (z : Record) (h : i < length l)
-    (x : Confirmation) (ex : confirmation_of x ≡ only is_confirmation (tick_replies b e (get_or l i z))) where
+    (x : Option Confirmation) (ex : confirmation_of x ≡ only is_confirmation (tick_replies b e (get_or l i z))) where
   -- what it sends
-  confirms : (y : Confirmation) → x ≡ y → tick_frames is_confirmation o b e (get_or l i z) ≡ frames_to o (get_or l i z).car (confirmation_of y)
+  confirms : (y : Option Confirmation) → x ≡ y → tick_frames is_confirmation o b e (get_or l i z) ≡ frames_to o (get_or l i z).car (confirmation_of y)
   confirms y q = frames_sent is_confirmation o b e (get_or l i z) ∙ ap (frames_to o (get_or l i z).car) (sym ex ∙ ap confirmation_of q)
 
   -- nothing
-  pub confirm_none : x ≡ code.Nothing → Confirming o b e l entry out k (i + 1)
-  confirm_none q = send_quiet (tick_frames is_confirmation o b e) confirmation_size l entry out k (confirmation_size * k) i w z h (confirms code.Nothing q)
+  pub confirm_none : x ≡ None → Confirming o b e l entry out k (i + 1)
+  confirm_none q = send_quiet (tick_frames is_confirmation o b e) confirmation_size l entry out k (confirmation_size * k) i w z h (confirms None q)
 
-  -- the toggles n with the result m
-  module _ (ready : Confirmable o b e l entry) (n m : ℕ) (q : x ≡ code.Cnf n m) where
+  -- toggles with a result
+  module _ (ready : Confirmable o b e l entry) (y : Confirmation) (q : x ≡ Some y) where
+    abbrev n : ℕ
+    n = y.toggles
+
+    abbrev m : ℕ
+    m = y.result
+
     told : only is_confirmation (tick_replies b e (get_or l i z)) ≡ confirmation n m ∷ []
     told = sym ex ∙ ap confirmation_of q
 

@@ -13,19 +13,16 @@ use Rattle.rules.specs.declared.Record.{Record}
 use Rattle.rules.specs.Received.{validate_first, for_record}
 use Rattle.rules.specs.FromOctets.{OctetRequest}
 use Rattle.rules.specs.Records.{same_run, owned, in_phase, counted}
-use Rattle.rules.specs.Frames.{Kept, keeps, Change, put_back, start_rule, sound_rule, rsp_rule, first_rule}
-use Rattle.rules.specs.Replies.{confirmation}
+use Rattle.rules.specs.Frames.{Kept, Change, put_back, start_rule, sound_rule, rsp_rule, first_rule}
 use Rattle.rules.specs.Invariant.{GoodRecord}
 use Rattle.rules.proofs.InvariantKept.{change_good}
 use Rattle.rules.proofs.PhaseLaws.{on_start, on_sound, on_profile, on_rsp, on_second}
-use Rattle.ends.specs.Outcomes.{and_then}
 use Rattle.ends.proofs.Logic.{OnYes, on_check}
-use Rattle.records.specs.declared.requests.Kept as code
+use Rattle.std.specs.Prelude.{Result, Ok}
+use Rattle.messages.specs.declared.Refusal.{Refusal}
+use Rattle.records.specs.declared.changes.Kept as code
 use Rattle.records.specs.declared.requests.RunMessage.TheVariants.{Start, Sound, Rsp}
-use Rattle.records.specs.declared.requests.Validated.{Validated}
-use Rattle.records.specs.declared.requests.Verdict.{Verdict}
-use Rattle.records.specs.declared.requests.Verdict.TheVariants.{Accepted}
-use Rattle.records.specs.Requests.{effect_of, verdict_of, Keeps, Validates}
+use Rattle.records.specs.Requests.{kept_of, validated_of}
 use Rattle.receiving.specs.declared.judge.OwnMessage.{OwnMessage}
 use Rattle.receiving.specs.declared.judge.OwnMessage.TheVariants.{Run, Profile, ValidateSecond}
 use Rattle.receiving.specs.Judge.{own_message_of}
@@ -63,16 +60,16 @@ module _ (e : Edition) (c : CarAddress) (u : is_unicast c.0 ≡ true) where
       (own_counted e m b r)
 
   -- as the code gives it
-  pub kept_good : (m : OwnMessage) (b : Beside) (r : Record) (k : code.Kept) → Keeps r (own_rule e m b r) k → GoodRecord e r → OctetRequest e (for_record (own_message_of m b)) → KeepsGood e c (effect_of k.kept k.effect)
-  kept_good m b r k w h o = subst (KeepsGood e c) (sym w.effect) (own_good m b r h o)
+  pub kept_good : (m : OwnMessage) (b : Beside) (r : Record) (k : Result code.Kept Refusal) → kept_of k ≡ own_rule e m b r → GoodRecord e r → OctetRequest e (for_record (own_message_of m b)) → KeepsGood e c (kept_of k)
+  kept_good m b r k w h o = subst (KeepsGood e c) (sym w) (own_good m b r h o)
 
   back_good : (x : Checked Kept) → OnYes (λ (y : Change). GoodRecord e (owned c y.kept)) (put_back x) → OnYes (λ (k : Kept). GoodRecord e (owned c k.kept)) x
   back_good (no n) h = tt
   back_good (yes k) h = h
 
   -- the same of the first VALIDATE.REQ, where it is accepted
-  pub validated_good : (r : Record) (result : ℕ) (v : Validated) → Validates r result v → GoodRecord e r → v.verdict ≡ Accepted → GoodRecord e (owned c v.kept)
-  validated_good r result v w h q =
-      let accepted = sym (ap (λ (x : Verdict). and_then (verdict_of x) (λ (y : Unit {0}). keeps v.kept (confirmation 0 result ∷ []))) q) ∙ w.replies in
-      subst (OnYes (λ (k : Kept). GoodRecord e (owned c k.kept))) (sym accepted)
+  pub validated_good : (r : Record) (result : ℕ) (v : Result Record Refusal) (k : Record) → validated_of result v ≡ first_rule result r r.phase → GoodRecord e r → v ≡ Ok k → GoodRecord e (owned c k)
+  validated_good r result v k w h q =
+      let accepted = sym (ap (validated_of result) q) ∙ w in
+      subst (OnYes (λ (x : Kept). GoodRecord e (owned c x.kept))) (sym accepted)
       (back_good (first_rule result r r.phase) (subst (OnYes (λ (y : Change). GoodRecord e (owned c y.kept))) (change_first e c result 0 0 (r ∷ [])) (change_good e c u (r ∷ []) (h, tt) validate_first tt 0 0 result)))

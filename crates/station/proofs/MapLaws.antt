@@ -9,7 +9,9 @@ use lib.ListN.{length}
 use types.Run.{OneOf, miss}
 use Rattle.messages.specs.declared.CarAddress.{CarAddress}
 use Rattle.messages.specs.Reading.{Checked, no, yes}
-use Rattle.ends.specs.declared.Answer.{Answer}
+use Rattle.std.specs.Prelude.{Result}
+use Rattle.messages.specs.declared.Refusal.{Refusal}
+use Rattle.ends.specs.declared.Done as code
 use Rattle.ends.specs.Outcomes.{and_then, next, outcome_of}
 use Rattle.ends.specs.Sending.{Says}
 use Rattle.rules.specs.declared.State.{State}
@@ -45,7 +47,7 @@ module _ (s : Station) (c : CarAddress) (n : ℕ) where
   map_elsewhere t = map_in_lem s.state t
 
   -- in Matched nothing changes, and the answer is the rule's
-  module _ (entry exit : List ℕ) (a : Answer) (w : Ready s c entry) (d : CarAddress) (e : s.state ≡ Matched d) where
+  module _ (entry exit : List ℕ) (a : Result code.Done Refusal) (w : Ready s c entry) (d : CarAddress) (e : s.state ≡ Matched d) where
     rule_here : asked s.state ≡ map_rule s.config d s.records c n
     unfolding state_rule
     rule_here = ap asked e

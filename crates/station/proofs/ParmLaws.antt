@@ -1,4 +1,7 @@
 -- PARM.REQ, in the rules' words: by the place that its record is given.
+use Rattle.std.specs.Prelude.{Result, Ok}
+use Rattle.messages.specs.Answers.{checked_of}
+use Rattle.messages.specs.declared.Refusal.{Refusal}
 use Prim.Native.Nat.{ℕ, ◌<◌}
 use mathlib.Core.Path.{◌≡◌, refl, sym, ap, ap₂, ◌∙◌}
 use mathlib.Core.Bool.{Bool, true, false, not}
@@ -25,9 +28,7 @@ use Rattle.records.specs.declared.find.Found.{Found}
 use Rattle.records.specs.declared.find.Found.TheVariants.{Own, Free, Nothing}
 use Rattle.records.specs.Places.{place_of}
 use Rattle.records.proofs.PlaceLaws.{FoundAt, found}
-use Rattle.receiving.specs.declared.admission.Admission.{Admission}
-use Rattle.receiving.specs.declared.admission.Admission.TheVariants.{At}
-use Rattle.receiving.specs.AtRecord.{later_at, place_rule, admission_rule, admission_of}
+use Rattle.receiving.specs.AtRecord.{later_at, place_rule, admission_rule}
 use Rattle.receiving.proofs.JudgeLaws.{no_yes}
 
 module _ (o : Configuration) (st : State) (rs : List Record) (c : CarAddress) (run : RunId) (a : ℕ) (e : st ≡ Matching a) where
@@ -83,11 +84,11 @@ module _ (o : Configuration) (st : State) (rs : List Record) (c : CarAddress) (r
   tested_inside true p is_open i w q = given_inside p is_open i w q
   tested_inside false p is_open i w q = no_yes 21 i q
 
-  module _ (p : Found) (ep : p ≡ place_of c rs) (x : Admission) (ex : admission_of x ≡ admission_rule run p (ltb 0 a)) where
+  module _ (p : Found) (ep : p ≡ place_of c rs) (x : Result ℕ Refusal) (ex : checked_of x ≡ admission_rule run p (ltb 0 a)) where
     -- the rule by what the code answers
-    pub parm_answered : state_rule o st rs c (for_record (parm_req run)) ≡ and_then (admission_of x) (admits (later_at o.edition p))
+    pub parm_answered : state_rule o st rs c (for_record (parm_req run)) ≡ and_then (checked_of x) (admits (later_at o.edition p))
     parm_answered = by_place p (found c rs p p ep refl) ∙ ap (λ (w : Checked ℕ). and_then w (admits (later_at o.edition p))) (sym ex)
 
     -- the place that it gives is inside
-    pub parm_inside : (i : ℕ) → x ≡ At i → i < length rs
-    parm_inside i t = tested_inside (not (is_empty run)) p (ltb 0 a) i (found c rs p p ep refl) (sym ex ∙ ap admission_of t)
+    pub parm_inside : (i : ℕ) → x ≡ Ok i → i < length rs
+    parm_inside i t = tested_inside (not (is_empty run)) p (ltb 0 a) i (found c rs p p ep refl) (sym ex ∙ ap checked_of t)

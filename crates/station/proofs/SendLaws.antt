@@ -32,7 +32,9 @@ use Rattle.rules.proofs.TryLaws.{pair_right, groups_right_lem}
 use Rattle.records.proofs.ProfileLaws.{past_values}
 use Rattle.rules.specs.Replies.{mean, parm_cnf, match_cnf, confirmation, report_of, message_to}
 use Rattle.rules.specs.Stations.{done}
-use Rattle.ends.specs.declared.Answer.{Answer}
+use Rattle.std.specs.Prelude.{Result}
+use Rattle.messages.specs.declared.Refusal.{Refusal}
+use Rattle.ends.specs.declared.Done.{Done}
 use Rattle.ends.specs.Answers.{summary}
 use Rattle.ends.specs.Outcomes.{Outcome, frames_of, joined}
 use Rattle.station.specs.Steps.{anew}
@@ -41,7 +43,7 @@ use Rattle.ends.proofs.SendLaws.{sends_writable}
 use Rattle.station.specs.Frames.{Comes}
 
 -- one frame sent
-pub one_sent : (s : Station) (st : State) (rs : List Record) (m : table.Message) (entry exit : List ℕ) (x : Station) (a : Answer) → Writable m (length entry) → x ≡ anew s s.pilot s.clock st rs → Sends m Nothing entry exit a
+pub one_sent : (s : Station) (st : State) (rs : List Record) (m : table.Message) (entry exit : List ℕ) (x : Station) (a : Result Done Refusal) → Writable m (length entry) → x ≡ anew s s.pilot s.clock st rs → Sends m Nothing entry exit a
     → Comes s (yes (done st rs (frame m ∷ []) Nothing)) entry exit (record { station = x; answer = a })
 one_sent s st rs m entry exit x a w ex e = record {
   station = ex;

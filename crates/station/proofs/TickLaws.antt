@@ -1,7 +1,7 @@
 -- The tick call: what follows the elapsed time, and what it comes to in each state.
 use Prim.Native.Nat.{ℕ, zero, suc, ◌+◌, ◌*◌, ◌-◌, ◌≤◌}
 use mathlib.Core.Path.{◌≡◌, refl, sym, ap, ap₂, ◌∙◌, subst}
-use mathlib.Core.Bool.{Bool, true, false, cond, ◌&&◌}
+use mathlib.Core.Bool.{Bool, true, false, not, cond, ◌&&◌, ◌||◌}
 use mathlib.Core.List.{List, [], ◌∷◌, map}
 use native.Mathlib.Omega.{arith}
 use borrow.Author.Tests.{le-leb, lt-leb}
@@ -25,7 +25,9 @@ use Rattle.rules.specs.declared.Stepped.{Stepped}
 use Rattle.rules.specs.Constants.{record_count, least_output}
 use Rattle.rules.specs.Calls.{tick}
 use Rattle.ends.specs.Outcomes.{and_then}
-use Rattle.rules.specs.Records.{none_held}
+use Rattle.std.specs.List.{list_any}
+use Rattle.ends.specs.Lists.{only}
+use Rattle.rules.specs.Records.{is_held, none_held}
 use Rattle.rules.specs.Stations.{Done, shared, inner, done}
 use Rattle.rules.specs.Events.{is_b}
 use Rattle.rules.specs.Ticks.{tick_elapsed, tick_record, all_frames, admission_done, joining_done, tick_done}
@@ -40,6 +42,19 @@ use Rattle.station.specs.Steps.{done_as, shared_as, anew, Gives}
 use Rattle.station.specs.Reports.{confirmation_size, Ready, Ticks, Confirms}
 use Rattle.station.proofs.StepLaws.{framed, no_frames, gives_as}
 use Rattle.station.proofs.BothLaws.{both_count, both_size, both_octets}
+
+-- ---- the admission's end
+
+-- one more record, asked whether it is held
+one_asked : (b : Bool) (r : Record) (l : List Record) (a : Bool) → not a ≡ eqb (length l) 0 → not (b || a) ≡ eqb (length (cond b (r ∷ l) l)) 0
+one_asked true r l a e = sym (eqb-suc-zero (length l))
+one_asked false r l a e = e
+
+-- whether no record is held, in the library's word
+pub none_asked : (rs : List Record) → not (list_any is_held rs) ≡ none_held rs
+unfolding only
+none_asked [] = refl
+none_asked (r ∷ rs) = one_asked (is_held r) r (only is_held rs) (list_any is_held rs) (none_asked rs)
 
 -- ---- what follows the elapsed time
 

@@ -12,7 +12,7 @@ use Rattle.rules.specs.Replies.{report_of, is_report, frame_to}
 use Rattle.rules.specs.Ticks.{tick_record, tick_frames, frames_of_all}
 use Rattle.rules.specs.Invariant.{GoodRecord}
 use Rattle.ends.proofs.ListLaws.{all_at}
-use Rattle.records.specs.declared.timers.AfterTick.{AfterTick}
+use Rattle.records.specs.declared.changes.Kept.{Kept}
 use Rattle.records.specs.Timers.{after_tick}
 use Rattle.records.proofs.FillLaws.{Filled, fill_none, fill_next, fill_all}
 use Rattle.records.proofs.TimerLaws.{reporting, reporting_some, sending_held}
@@ -40,24 +40,24 @@ tick_all o b e l entry out rs k m i w h = record {
 
 -- a turn: the record at i
 module _ (o : Configuration) (b : Bool) (e : ℕ) (l : List Record) (entry out : List ℕ) (rs : List Record) (k m i : ℕ) (w : Ticking o b e l entry out rs k m i) (h : i < length l) (ready : Ready o l entry)
-    (z : Record) (t : AfterTick) (et : t ≡ after_tick b e (get_or l i z)) where
+    (z : Record) (t : Kept) (et : t ≡ after_tick b e (get_or l i z)) where
   -- the record is a good one
   good : GoodRecord o.edition (get_or l i z)
   good = all_at (GoodRecord o.edition) l i z ready.good h
 
   -- what it comes to is stored
-  stored : Filled (tick_record b e) l (set rs i t.after) (i + 1)
+  stored : Filled (tick_record b e) l (set rs i t.kept) (i + 1)
   unfolding after_tick
-  stored = subst (λ (x : AfterTick). Filled (tick_record b e) l (set rs i x.after) (i + 1)) (sym et) (fill_next (tick_record b e) l rs i z w.records h)
+  stored = subst (λ (x : Kept). Filled (tick_record b e) l (set rs i x.kept) (i + 1)) (sym et) (fill_next (tick_record b e) l rs i z w.records h)
 
   -- what it reports
   reported : (g : Bool) → t.reports ≡ g → tick_frames is_report o b e (get_or l i z) ≡ cond g (frame_to o (get_or l i z).car (report_of (get_or l i z)) ∷ []) []
   reported g q =
       reporting o b e (get_or l i z)
-      ∙ ap (λ (x : Bool). cond x (frame_to o (get_or l i z).car (report_of (get_or l i z)) ∷ []) []) (ap (λ (x : AfterTick). x.reports) (sym et) ∙ q)
+      ∙ ap (λ (x : Bool). cond x (frame_to o (get_or l i z).car (report_of (get_or l i z)) ∷ []) []) (ap (λ (x : Kept). x.reports) (sym et) ∙ q)
 
   -- a record that does not report
-  pub tick_waits : t.reports ≡ false → Ticking o b e l entry out (set rs i t.after) k m (i + 1)
+  pub tick_waits : t.reports ≡ false → Ticking o b e l entry out (set rs i t.kept) k m (i + 1)
   tick_waits q = record { records = stored; reports = send_quiet (tick_frames is_report o b e) report_size l entry out k m i w.reports z h (reported false q) }
 
   -- a record that reports
@@ -66,13 +66,13 @@ module _ (o : Configuration) (b : Bool) (e : ℕ) (l : List Record) (entry out :
     pub tick_sendable : Sendable o (get_or l i z)
     unfolding after_tick
     tick_sendable =
-        let r : (after_tick b e (get_or l i z)).reports ≡ true = ap (λ (x : AfterTick). x.reports) (sym et) ∙ q in
+        let r : (after_tick b e (get_or l i z)).reports ≡ true = ap (λ (x : Kept). x.reports) (sym et) ∙ q in
         record { address = ready.address; car = good.car (sending_held is_report b e (get_or l i z) r); good = good }
 
     -- some profile is counted
     pub tick_some : 0 < (get_or l i z).profiles
     unfolding after_tick
-    tick_some = reporting_some o.edition b e (get_or l i z) good (ap (λ (x : AfterTick). x.reports) (sym et) ∙ q)
+    tick_some = reporting_some o.edition b e (get_or l i z) good (ap (λ (x : Kept). x.reports) (sym et) ∙ q)
 
     room : report_size * length (frames_of_all is_report o b e l) ≤ length entry
     room = omega (arith, reports_few o b e l, ready.room)
@@ -92,5 +92,5 @@ module _ (o : Configuration) (b : Bool) (e : ℕ) (l : List Record) (entry out :
     pub tick_reports : (ys : List ℕ) (x : ℕ)
         → Writes x (frame_to o (get_or l i z).car (report_of (get_or l i z))) (take (length out - m) (drop m out)) ys × (x ≤ report_size)
         → length ys ≡ length (take (length out - m) (drop m out))
-        → Ticking o b e l entry (put_mid m (length out - m) out ys) (set rs i t.after) (k + 1) (m + x) (i + 1)
+        → Ticking o b e l entry (put_mid m (length out - m) out ys) (set rs i t.kept) (k + 1) (m + x) (i + 1)
     tick_reports ys x wrote len = record { records = stored; reports = send_one (tick_frames is_report o b e) report_size l entry out k m i w.reports z h _ (reported true q) room ys x wrote.0 wrote.1 len }

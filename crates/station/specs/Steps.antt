@@ -1,9 +1,8 @@
 -- What a call comes to, as the code gives it: the station and the answer, and the output.
-use Rattle.std.specs.Prelude.{ℕ, ◌≡◌, List}
+use Rattle.std.specs.Prelude.{ℕ, ◌≡◌, List, Ok, Err}
 use Rattle.messages.specs.declared.Refusal.{Refusal}
 use Rattle.octets.specs.Octets.{splice}
 use Rattle.messages.specs.Reading.{yes}
-use Rattle.ends.specs.declared.Answer.TheVariants as answer
 use Rattle.ends.specs.declared.Indication.{Indication}
 use Rattle.rules.specs.declared.Pilot.{Pilot}
 use Rattle.rules.specs.declared.Record.{Record}
@@ -16,11 +15,11 @@ use Rattle.ends.specs.Answers.{answer_of, summary}
 
 -- a refusal's answer, with the station as it was
 abbrev pub refused_as : Station → Refusal → Stepped
-refused_as s x = record { station = s; answer = answer.Refused x }
+refused_as s x = record { station = s; answer = Err x }
 
 -- an accepted call's answer, with the station after it
 abbrev pub done_as : Station → ℕ → ℕ → Indication → Stepped
-done_as s n k i = record { station = s; answer = answer.Done n k i }
+done_as s n k i = record { station = s; answer = Ok (record { frames = n; octets = k; indication = i }) }
 
 -- the shared part with another pilot state and reading
 abbrev pub shared_as : Station → Pilot → ℕ → Shared

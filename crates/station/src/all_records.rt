@@ -1,6 +1,7 @@
-// All records: after a tick, and whether none is held.
+// All records: after a tick, and whether any is held.
 ghost use Rattle.std.specs.Prelude.{◌≡◌};
-ghost use Rattle.rules.specs.Records.{none_held};
+ghost use Rattle.std.specs.List.{list_any};
+ghost use Rattle.rules.specs.Records.{is_held};
 ghost use Rattle.station.specs.Reports.{Ready, Ticks};
 
 use crate::reports;
@@ -30,37 +31,27 @@ pub(crate) fn tick_all(
     let mut after = records;
     let mut sent: usize = 0;
     let mut octets: usize = 0;
-    let mut i: usize = 0;
-    while i < RECORDS {
+    for i in 0..RECORDS {
         let r = records[i];
         let t = timers::tick_record(r, elapsed, back);
-        let next = t.after;
-        after[i] = next;
+        after[i] = t.kept;
         if t.reports {
             let report = reports::write_report(config, r, &mut out[octets..]);
-            octets = octets + report;
-            sent = sent + 1;
+            octets += report;
+            sent += 1;
         }
-        i = i + 1;
     }
     TickedRecords {
         records: after,
         reports: sent,
-        octets: octets,
+        octets,
     }
 }
 
-// Whether no record is held.
-pub(crate) fn none_held(records: RecordArray) -> bool
-    ensures { result ≡ none_held records }
+// Whether any record is held.
+#[tactic(auto, unfolding(rules::specs::Records::is_held))]
+pub(crate) fn any_held(records: RecordArray) -> bool
+    ensures { result ≡ list_any is_held records }
 {
-    let mut i: usize = 0;
-    while i < RECORDS {
-        let r = records[i];
-        if r.held {
-            return false;
-        }
-        i = i + 1;
-    }
-    true
+    records.iter().any(|r| r.held)
 }

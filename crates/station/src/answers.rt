@@ -3,7 +3,7 @@ ghost use Rattle.std.specs.Prelude.{◌≡◌};
 ghost use Rattle.station.specs.Steps as steps;
 ghost use Rattle.station.specs.Steps.{refused_as, done_as};
 
-use ends::{Answer, Indication};
+use ends::{Done, Indication};
 use messages::Refusal;
 use rules::{Pilot, RecordArray, State, Station, Stepped};
 
@@ -12,8 +12,8 @@ pub(crate) fn refused(station: Station, refusal: Refusal) -> Stepped
     ensures { result ≡ refused_as station refusal }
 {
     Stepped {
-        station: station,
-        answer: Answer::Refused(refusal),
+        station,
+        answer: Err(refusal),
     }
 }
 
@@ -21,7 +21,10 @@ pub(crate) fn refused(station: Station, refusal: Refusal) -> Stepped
 pub(crate) fn without_frames(station: Station, indication: Indication) -> Stepped
     ensures { result ≡ done_as station 0 0 indication }
 {
-    done(station, 0, 0, indication)
+    Stepped {
+        station,
+        answer: ends::silent(indication),
+    }
 }
 
 // An accepted call: the station after it, so many frames of so many octets in all, and the indication.
@@ -29,12 +32,12 @@ pub(crate) fn done(station: Station, frames: u8, octets: usize, indication: Indi
     ensures { result ≡ done_as station frames octets indication }
 {
     Stepped {
-        station: station,
-        answer: Answer::Done {
-            frames: frames,
-            octets: octets,
-            indication: indication,
-        },
+        station,
+        answer: Ok(Done {
+            frames,
+            octets,
+            indication,
+        }),
     }
 }
 
@@ -48,12 +51,11 @@ pub(crate) fn anew(
 ) -> Station
     ensures { result ≡ steps.anew station pilot clock state records }
 {
-    let config = station.config;
     Station {
-        config: config,
-        state: state,
-        pilot: pilot,
-        clock: clock,
-        records: records,
+        state,
+        pilot,
+        clock,
+        records,
+        ..station
     }
 }

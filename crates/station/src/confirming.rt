@@ -6,7 +6,6 @@ ghost use Rattle.station.specs.Reports.{confirmation_size, Sendable, Writes, Con
 
 use receiving::reply;
 use records::validation;
-use records::validation::Confirmation;
 use rules::{CONFIRMATION_OCTETS, Configuration, RECORDS, Record, RecordArray};
 
 // A confirmation to a record's car, from the first octet of the output.
@@ -14,12 +13,10 @@ fn confirm(config: Configuration, r: Record, toggles: u8, res: u8, out: &mut [u8
     requires { Sendable config r × ((res < result_limit) × (confirmation_size ≤ length out.old)) }
     ensures { Writes confirmation_size (frame_to config r.car (confirmation toggles res)) out.old out.new }
 {
-    let car = r.car;
-    let edition = config.edition;
-    let message = reply::validate_cnf(config, car, toggles, res);
+    let message = reply::validate_cnf(config, r.car, toggles, res);
     let groups = messages::no_groups();
     let ids = messages::no_ids();
-    messages::write(edition, message, groups, ids, out);
+    let _written = messages::write(config.edition, message, groups, ids, out);
 }
 
 // How many confirmations so many milliseconds send; they stand back to back in record order.
@@ -34,19 +31,13 @@ pub(crate) fn confirm_all(
     ensures { Confirms config back elapsed records out.old out.new result }
 {
     let mut sent: usize = 0;
-    let mut i: usize = 0;
-    while i < RECORDS {
+    for i in 0..RECORDS {
         let r = records[i];
-        let confirmation = validation::confirmation_of(r, elapsed, back);
-        match confirmation {
-            Confirmation::Nothing => {}
-            Confirmation::Cnf { toggles, result } => {
-                let at = CONFIRMATION_OCTETS * sent;
-                confirm(config, r, toggles, result, &mut out[at..]);
-                sent = sent + 1;
-            }
+        if let Some(cnf) = validation::confirmation_of(r, elapsed, back) {
+            let at = CONFIRMATION_OCTETS * sent;
+            confirm(config, r, cnf.toggles, cnf.result, &mut out[at..]);
+            sent += 1;
         }
-        i = i + 1;
     }
     sent
 }

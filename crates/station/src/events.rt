@@ -14,46 +14,29 @@ use records::validation;
 use rules::{ADMISSION_TIME, Pilot, State, Station, Stepped};
 
 // Whether the pilot is at B, C or D.
+#[tactic(auto, unfolding(rules::specs::Events::plugged))]
 pub fn plugged(pilot: Pilot) -> bool
     ensures { result ≡ rule.plugged pilot }
 {
-    match pilot {
-        Pilot::A => false,
-        Pilot::B => true,
-        Pilot::C => true,
-        Pilot::D => true,
-        Pilot::E => false,
-        Pilot::F => false,
-    }
+    matches!(pilot, Pilot::B | Pilot::C | Pilot::D)
 }
 
 // Whether the pilot is at B.
+#[tactic(auto, unfolding(rules::specs::Events::is_b))]
 pub(crate) fn is_b(pilot: Pilot) -> bool
     ensures { result ≡ rule.is_b pilot }
 {
-    match pilot {
-        Pilot::A => false,
-        Pilot::B => true,
-        Pilot::C => false,
-        Pilot::D => false,
-        Pilot::E => false,
-        Pilot::F => false,
-    }
+    pilot == Pilot::B
 }
 
 // What the end of a state indicates.
+#[tactic(auto, unfolding(rules::specs::Events::lost))]
 pub fn lost(state: State) -> Indication
     ensures { result ≡ rule.lost state }
 {
     match state {
-        State::Unmatched => Indication::Nothing,
-        State::Matching(_) => Indication::NoLink,
-        State::Joining {
-            left: _,
-            car: _,
-            run: _,
-        } => Indication::NoLink,
-        State::Matched(_) => Indication::Nothing,
+        State::Matching(_) | State::Joining { .. } => Indication::NoLink,
+        State::Unmatched | State::Matched(_) => Indication::Nothing,
     }
 }
 
@@ -61,10 +44,8 @@ pub fn lost(state: State) -> Indication
 pub(crate) fn end(station: Station, pilot: Pilot, clock: u32) -> Stepped
     ensures { Gives (shared_as station pilot clock) (ended (inner station)) [] [] result }
 {
-    let records = station.records;
-    let state = station.state;
-    let indication = lost(state);
-    let free = freeing::free_all(records);
+    let indication = lost(station.state);
+    let free = freeing::free_all(station.records);
     let next = answers::anew(station, pilot, clock, State::Unmatched, free);
     answers::without_frames(next, indication)
 }
@@ -73,27 +54,24 @@ pub(crate) fn end(station: Station, pilot: Pilot, clock: u32) -> Stepped
 pub(crate) fn change(station: Station, pilot: Pilot, reading: u32) -> Stepped
     ensures { Gives (takes_pilot pilot reading (shared station)) (pilot_done (rule.plugged station.pilot) (rule.plugged pilot) (turn station.pilot pilot) (inner station)) [] [] result }
 {
-    let last = station.pilot;
-    let state = station.state;
-    let records = station.records;
-    if plugged(pilot) {
-        if plugged(last) {
-            let toggled = validating::toggle_all(records, validation::turn_of(last, pilot));
-            let next = answers::anew(station, pilot, station.clock, state, toggled);
-            answers::without_frames(next, Indication::Nothing)
-        } else {
-            let free = freeing::free_all(records);
-            let next = answers::anew(
-                station,
-                pilot,
-                reading,
-                State::Matching(ADMISSION_TIME),
-                free,
-            );
-            answers::without_frames(next, Indication::Nothing)
-        }
+    if !plugged(pilot) {
+        return end(station, pilot, reading);
+    }
+    if plugged(station.pilot) {
+        let turn = validation::turn_of(station.pilot, pilot);
+        let toggled = validating::toggle_all(station.records, turn);
+        let next = answers::anew(station, pilot, station.clock, station.state, toggled);
+        answers::without_frames(next, Indication::Nothing)
     } else {
-        end(station, pilot, reading)
+        let free = freeing::free_all(station.records);
+        let next = answers::anew(
+            station,
+            pilot,
+            reading,
+            State::Matching(ADMISSION_TIME),
+            free,
+        );
+        answers::without_frames(next, Indication::Nothing)
     }
 }
 

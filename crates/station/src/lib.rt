@@ -1,4 +1,5 @@
 // A charging station's calls, by value: each gives the station afterwards and an answer.
+// `Invariant` is asked for and stands in no type: a type with it would ask it of each caller who writes a `Station`, which none had to prove.
 #![tactic(auto)]
 
 mod all_records;
@@ -18,10 +19,8 @@ ghost use Rattle.rules.specs.Calls as calls;
 ghost use Rattle.rules.specs.Invariant.{Invariant};
 ghost use Rattle.rules.specs.Answers.{Answers};
 
-use ends::TickTime;
 use messages::Refusal;
 use receiving::judge;
-use receiving::judge::Judged;
 use rules::{LEAST_OUTPUT, State, Station, Stepped};
 
 // A frame was received: its reply stands from the output's first octet.
@@ -29,11 +28,9 @@ pub fn frame(station: Station, octets: &[u8], out: &mut [u8]) -> Stepped
     requires { Invariant station }
     ensures { Answers station (calls.frame octets.now (length out.old)) out.old out.new result }
 {
-    let config = station.config;
-    let judged = judge::judge(config, octets, out.len());
-    match judged {
-        Judged::Refused(refusal) => maps::unread(station, refusal, octets, out),
-        Judged::Taken { car, request } => frames::accept(station, car, request, octets, out),
+    match judge::judge(station.config, octets, out.len()) {
+        Err(refusal) => maps::unread(station, refusal, octets, out),
+        Ok(asking) => frames::accept(station, asking.car, asking.request, octets, out),
     }
 }
 
@@ -42,11 +39,10 @@ pub fn tick(station: Station, reading: u32, out: &mut [u8]) -> Stepped
     requires { Invariant station }
     ensures { Answers station (calls.tick reading (length out.old)) out.old out.new result }
 {
-    let config = station.config;
-    let time = ends::tick_time(config.good, LEAST_OUTPUT, out.len(), reading, station.clock);
-    match time {
-        TickTime::Refused(refusal) => answers::refused(station, refusal),
-        TickTime::Elapsed(elapsed) => ticks::run(station, reading, elapsed, out),
+    let good = station.config.good;
+    match ends::tick_time(good, LEAST_OUTPUT, out.len(), reading, station.clock) {
+        Err(refusal) => answers::refused(station, refusal),
+        Ok(elapsed) => ticks::run(station, reading, elapsed, out),
     }
 }
 
@@ -55,8 +51,7 @@ pub fn pilot(station: Station, pilot: rules::Pilot, reading: u32) -> Stepped
     requires { Invariant station }
     ensures { Answers station (calls.pilot pilot reading) [] [] result }
 {
-    let config = station.config;
-    if !config.good {
+    if !station.config.good {
         return answers::refused(station, Refusal::BadConfiguration);
     }
     events::change(station, pilot, reading)
@@ -67,12 +62,10 @@ pub fn terminate(station: Station) -> Stepped
     requires { Invariant station }
     ensures { Answers station calls.terminate [] [] result }
 {
-    let config = station.config;
-    let pilot = station.pilot;
-    if !config.good {
+    if !station.config.good {
         return answers::refused(station, Refusal::BadConfiguration);
     }
-    events::end(station, pilot, station.clock)
+    events::end(station, station.pilot, station.clock)
 }
 
 // The link to the car that joins is up.
@@ -80,17 +73,10 @@ pub fn link_up(station: Station) -> Stepped
     requires { Invariant station }
     ensures { Answers station calls.link_up [] [] result }
 {
-    let config = station.config;
-    let state = station.state;
-    if !config.good {
+    if !station.config.good {
         return answers::refused(station, Refusal::BadConfiguration);
     }
-    let State::Joining {
-        left: _,
-        car,
-        run: _,
-    } = state
-    else {
+    let State::Joining { car, .. } = station.state else {
         return answers::refused(station, Refusal::WrongState);
     };
     events::linked(station, car)

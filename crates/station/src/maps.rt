@@ -13,7 +13,6 @@ ghost use Rattle.station.specs.Frames.{Ready, Comes};
 
 use crate::answers;
 use messages::{CarAddress, Refusal};
-use receiving::judge::MapJudged;
 use receiving::{judge, maps};
 use rules::{State, Station, Stepped};
 
@@ -22,16 +21,11 @@ fn map_req(station: Station, car: CarAddress, carriers: usize, out: &mut [u8]) -
     requires { Ready station car out.old }
     ensures { Comes station (state_rule station.config station.state station.records car (map_req carriers)) out.old out.new result }
 {
-    let state = station.state;
-    let State::Matched(owner) = state else {
+    let State::Matched(owner) = station.state else {
         return answers::refused(station, Refusal::WrongState);
     };
-    let config = station.config;
-    let answer = maps::answer(config, owner, car, carriers, out);
-    Stepped {
-        station: station,
-        answer: answer,
-    }
+    let answer = maps::answer(station.config, owner, car, carriers, out);
+    Stepped { station, answer }
 }
 
 // A frame that was refused as one of the eleven messages: where its type is none of theirs, it may be one of amplitude maps.
@@ -42,10 +36,8 @@ pub(crate) fn unread(station: Station, refusal: Refusal, octets: &[u8], out: &mu
     if !judge::is_unknown(refusal) {
         return answers::refused(station, refusal);
     }
-    let config = station.config;
-    let judged = judge::judge_map(config, octets);
-    match judged {
-        MapJudged::Refused(untaken) => answers::refused(station, untaken),
-        MapJudged::Asked { car, carriers } => map_req(station, car, carriers, out),
+    match judge::judge_map(station.config, octets) {
+        Err(untaken) => answers::refused(station, untaken),
+        Ok(asking) => map_req(station, asking.car, asking.carriers, out),
     }
 }

@@ -11,7 +11,6 @@ ghost use Rattle.rules.specs.Stations.{done};
 ghost use Rattle.ends.specs.Sending.{Writable};
 ghost use Rattle.station.specs.Frames.{Ready, Comes};
 
-use crate::answers;
 use ends::Indication;
 use messages::{CarAddress, GroupValues, Ids, Message, RunId};
 use receiving::reply;
@@ -31,14 +30,14 @@ fn sent(
     requires { Writable (message_of station.config.edition message (besides values ids)) (length out.old) }
     ensures { Comes station (yes (done state records (writing.frame (message_of station.config.edition message (besides values ids)) ∷ []) Indication.Nothing)) out.old out.new result }
 {
-    let config = station.config;
-    let edition = config.edition;
-    let pilot = station.pilot;
-    let next = answers::anew(station, pilot, station.clock, state, records);
-    let answer = ends::send(edition, message, values, ids, Indication::Nothing, out);
+    let edition = station.config.edition;
     Stepped {
-        station: next,
-        answer: answer,
+        station: Station {
+            state,
+            records,
+            ..station
+        },
+        answer: ends::send(edition, message, values, ids, Indication::Nothing, out),
     }
 }
 
@@ -54,12 +53,10 @@ pub(crate) fn parm_cnf(
     requires { Ready station car out.old }
     ensures { Comes station (yes (done station.state records (frames_to station.config car (parm_cnf later run ∷ [])) Indication.Nothing)) out.old out.new result }
 {
-    let config = station.config;
-    let state = station.state;
-    let message = reply::parm_cnf(config, car, later, run);
+    let message = reply::parm_cnf(station.config, car, later, run);
     let groups = messages::no_groups();
     let ids = messages::no_ids();
-    sent(station, state, records, message, groups, ids, out)
+    sent(station, station.state, records, message, groups, ids, out)
 }
 
 // The report of a record to a car, with the records after it.
@@ -73,12 +70,10 @@ pub(crate) fn report(
     requires { Ready station car out.old × (GoodRecord station.config.edition r × (0 < r.profiles)) }
     ensures { Comes station (yes (done station.state records (frames_to station.config car (report_of r ∷ [])) Indication.Nothing)) out.old out.new result }
 {
-    let config = station.config;
-    let state = station.state;
-    let message = reply::report(config, car, r);
+    let message = reply::report(station.config, car, r);
     let values = report::values(r);
     let ids = messages::no_ids();
-    sent(station, state, records, message, values, ids, out)
+    sent(station, station.state, records, message, values, ids, out)
 }
 
 // VALIDATE.CNF with a result and no toggles to a car, with the records after it.
@@ -92,12 +87,10 @@ pub(crate) fn validate_cnf(
     requires { Ready station car out.old × (res < result_limit) }
     ensures { Comes station (yes (done station.state records (frames_to station.config car (confirmation 0 res ∷ [])) Indication.Nothing)) out.old out.new result }
 {
-    let config = station.config;
-    let state = station.state;
-    let message = reply::validate_cnf(config, car, 0, res);
+    let message = reply::validate_cnf(station.config, car, 0, res);
     let groups = messages::no_groups();
     let ids = messages::no_ids();
-    sent(station, state, records, message, groups, ids, out)
+    sent(station, station.state, records, message, groups, ids, out)
 }
 
 // MATCH.CNF to a car with the identifiers of its request, with the state and the records after it.
@@ -113,8 +106,7 @@ pub(crate) fn match_cnf(
     requires { Ready station car out.old × (IsId station.config.edition ids.first × IsId station.config.edition ids.second) }
     ensures { Comes station (yes (done state records (frames_to station.config car (match_cnf run ids.first ids.second ∷ [])) Indication.Nothing)) out.old out.new result }
 {
-    let config = station.config;
-    let message = reply::match_cnf(config, car, run);
+    let message = reply::match_cnf(station.config, car, run);
     let groups = messages::no_groups();
     sent(station, state, records, message, groups, ids, out)
 }

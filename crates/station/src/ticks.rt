@@ -28,7 +28,7 @@ pub fn state_after(state: State, elapsed: u32) -> Passed
     } = state
     else {
         return Passed {
-            state: state,
+            state,
             indication: Indication::Nothing,
         };
     };
@@ -40,11 +40,7 @@ pub fn state_after(state: State, elapsed: u32) -> Passed
         };
     }
     Passed {
-        state: State::Joining {
-            left: left,
-            car: car,
-            run: run,
-        },
+        state: State::Joining { left, car, run },
         indication: Indication::Nothing,
     }
 }
@@ -54,26 +50,18 @@ pub(crate) fn run(station: Station, reading: u32, elapsed: u32, out: &mut [u8]) 
     requires { Ready station.config station.records out.old }
     ensures { Gives (shared_as station station.pilot reading) (tick_done station.config (is_b station.pilot) elapsed station.state station.records) out.old out.new result }
 {
-    let state = station.state;
-    match state {
-        State::Matching(time) => matching(station, reading, elapsed, time, out),
-        _ => {
-            let after = state_after(state, elapsed);
-            let next = after.state;
-            let indication = after.indication;
-            read(station, reading, next, indication)
-        }
+    if let State::Matching(time) = station.state {
+        return matching(station, reading, elapsed, time, out);
     }
-}
-
-// The reading taken, in a state, with nothing sent.
-fn read(station: Station, reading: u32, state: State, indication: Indication) -> Stepped
-    ensures { result ≡ done_as (anew station station.pilot reading state station.records) 0 0 indication }
-{
-    let pilot = station.pilot;
-    let records = station.records;
-    let next = answers::anew(station, pilot, reading, state, records);
-    answers::without_frames(next, indication)
+    let after = state_after(station.state, elapsed);
+    let next = answers::anew(
+        station,
+        station.pilot,
+        reading,
+        after.state,
+        station.records,
+    );
+    answers::without_frames(next, after.indication)
 }
 
 // Matching: each record's time, then admission's; closed with no record held, the station is Unmatched.
@@ -87,14 +75,12 @@ fn matching(station: Station, reading: u32, elapsed: u32, time: u32, out: &mut [
     let back = events::is_b(pilot);
     let ticked = all_records::tick_all(records, elapsed, back, config, out);
     let after = ticked.records;
-    let reports = ticked.reports;
     let from = ticked.octets;
     let confirmed = confirming::confirm_all(records, elapsed, back, config, &mut out[from..]);
     let octets = from + CONFIRMATION_OCTETS * confirmed;
-    let frames = (reports + confirmed) as u8;
+    let frames = (ticked.reports + confirmed) as u8;
     let left = ends::left_after(time, elapsed);
-    let none = all_records::none_held(after);
-    if (left == 0) & none {
+    if (left == 0) & !all_records::any_held(after) {
         let next = answers::anew(station, pilot, reading, State::Unmatched, after);
         answers::done(next, frames, octets, Indication::NoLink)
     } else {

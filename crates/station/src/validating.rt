@@ -1,37 +1,27 @@
 // Validation over all records: toggles, and what a first VALIDATE.REQ is answered.
 ghost use Rattle.std.specs.Prelude.{◌≡◌, map};
-ghost use Rattle.rules.specs.Validation.{any_validates, first_result, toggled_record};
+ghost use Rattle.std.specs.List.{list_any};
+ghost use Rattle.rules.specs.Validation.{is_validating, first_result, toggled_record};
 
 use records::validation;
 use rules::{RECORDS, RecordArray, Turn};
 
-// Every record after a pilot change among B, C and D.
+// Every record after a pilot change among B, C and D. Not by `map`, by which the change took 59,458 instructions for 25,518.
 pub(crate) fn toggle_all(records: RecordArray, turn: Turn) -> RecordArray
     ensures { result ≡ map (toggled_record turn) records }
 {
     let mut rs = records;
-    let mut i: usize = 0;
-    while i < RECORDS {
-        let r = records[i];
-        rs[i] = validation::toggled(r, turn);
-        i = i + 1;
+    for i in 0..RECORDS {
+        rs[i] = validation::toggled(records[i], turn);
     }
     rs
 }
 
 // Whether any record is ready or counting.
 fn any_validates(records: RecordArray) -> bool
-    ensures { result ≡ any_validates records }
+    ensures { result ≡ list_any is_validating records }
 {
-    let mut i: usize = 0;
-    while i < RECORDS {
-        let r = records[i];
-        if validation::is_validating(r) {
-            return true;
-        }
-        i = i + 1;
-    }
-    false
+    records.iter().any(|r| validation::is_validating(*r))
 }
 
 // What a first VALIDATE.REQ is answered, by whether validation is not required.

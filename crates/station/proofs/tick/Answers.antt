@@ -1,7 +1,6 @@
 -- By the elapsed time; then the state.
-use mathlib.Core.Path.{◌≡◌, sym, ap, ◌∙◌}
+use mathlib.Core.Path.{◌≡◌}
 use lib.ListN.{length}
-use Rattle.ends.specs.Clock.{tick_time_of}
 use Rattle.rules.specs.Constants.{record_count}
 use Rattle.station.proofs.StepLaws.{accepted, refuses}
 use Rattle.ends.proofs.ListLaws.{length_mapped}
@@ -15,15 +14,15 @@ count c = search (rules, length_mapped)
 
 pub run-requires : goal.run-requires
 run-requires c =
-    let time = sym (ap tick_time_of c.in-Elapsed.is) ∙ c.tick_time-time.ensures in
+    let time = c.in-Ok.ensures in
     tick_ready c.args.station c.args.reading _ c.args.out.now c.requires (count c) time
 
-pub returns-in-Refused : goal.returns-in-Refused
-returns-in-Refused c =
-    let time = sym (ap tick_time_of c.in-Refused.is) ∙ c.tick_time-time.ensures in
+pub returns-in-Err : goal.returns-in-Err
+returns-in-Err c =
+    let time = c.in-Err.ensures in
     refuses _ _ c.requires _ _ _ (tick_refused c.args.station c.args.reading _ _ time) c.refused.ensures
 
-pub returns-in-Elapsed : goal.returns-in-Elapsed
-returns-in-Elapsed c =
-    let time = sym (ap tick_time_of c.in-Elapsed.is) ∙ c.tick_time-time.ensures in
+pub returns-in-Ok : goal.returns-in-Ok
+returns-in-Ok c =
+    let time = c.in-Ok.ensures in
     accepted _ _ c.requires _ _ _ _ _ tt (tick_shared c.args.station c.args.reading _ _ time) (tick_rule c.args.station c.args.reading _ _ time) c.run.ensures

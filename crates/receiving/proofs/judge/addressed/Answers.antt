@@ -2,7 +2,7 @@
 use Rattle.messages.specs.declared.Message.{Message}
 use Rattle.messages.specs.Answers.{message_of}
 use Rattle.receiving.specs.Judge.{addressed_rule}
-use Rattle.receiving.proofs.JudgeLaws.{addressed_as, only_cars}
+use Rattle.receiving.proofs.JudgeLaws.{addressed_as}
 use mathlib.Core.Path.{refl, sym, ap, ◌∙◌}
 use Rattle.receiving.proofs.judge.addressed.Goals as goal
 
@@ -37,7 +37,4 @@ returns-in-SlacMatchReq c =
 pub returns-in-AttenProfileInd : goal.returns-in-AttenProfileInd
 returns-in-AttenProfileInd c =
     let a = c.args in
-    addressed_as a.config _ _ _ _ a.message _ _ c.for_us-in-AttenProfileInd.ensures refl c.in-AttenProfileInd.is (λ g. refl)
-
-pub returns-in_default : goal.returns-in_default
-returns-in_default c = λ g. only_cars c.args.config c.args.message g c.in_default.in_default-own.keys8
+    addressed_as a.config _ _ _ _ a.message _ _ (rw c.eq.ensures at c.for_us-in-AttenProfileInd.ensures) refl c.in-AttenProfileInd.is (λ g. refl)

@@ -8,4 +8,4 @@ use Rattle.receiving.proofs.maps.confirm.Goals as goal
 pub returns : goal.returns
 returns c =
     let a = c.args in
-    says_written (write_rules (confirmation a.config a.car) (length a.out.now)) _ _ _ c.write_cnf.result c.told.result c.write_cnf.ensures.result_value c.write_cnf.ensures.out_after c.told.ensures
+    says_written (write_rules (confirmation a.config a.car) (length a.out.now)) _ _ _ c.write_cnf-written.result c.told.result c.write_cnf-written.ensures.result_value c.write_cnf-written.ensures.out_after c.told.ensures

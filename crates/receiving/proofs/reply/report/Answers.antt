@@ -4,4 +4,4 @@ use Rattle.receiving.proofs.reply.report.Goals as goal
 
 pub returns : goal.returns
 unfolding report_of
-returns c = rw c.groups_in-count.ensures
+returns c = rw c.groups_in.ensures

@@ -11,7 +11,7 @@ loop-i-init c = (merging_start min _ _, merging_start max _ _)
 
 pub loop-i-preserved : goal.loop-i-preserved
 loop-i-preserved c =
-    (merging_next min c.loop-i.i c.loop-i.least _ _ _ c.loop-i.invariant.0 (search rules) (search rules) c.lower.ensures, merging_next max c.loop-i.i c.loop-i.greatest _ _ _ c.loop-i.invariant.1 (search rules) (search rules) c.higher.ensures)
+    (merging_next min c.loop-i.i c.loop-i.least _ _ _ c.loop-i.invariant.0 (search rules) (search rules) c.min.ensures, merging_next max c.loop-i.i c.loop-i.greatest _ _ _ c.loop-i.invariant.1 (search rules) (search rules) c.max.ensures)
 
 pub returns : goal.returns
 unfolding widened

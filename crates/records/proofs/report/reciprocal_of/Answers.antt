@@ -9,4 +9,4 @@ use Rattle.records.proofs.report.reciprocal_of.Goals as goal
 
 pub returns : goal.returns
 unfolding reciprocal
-returns c = reciprocal_at (suc most_profiles) 0 c.args.profiles (omega (arith, c.requires)) ∙ ap reciprocal (zero-add c.args.profiles)
+returns c = rw c.from.ensures (reciprocal_at (suc most_profiles) 0 c.args.profiles (omega (arith, c.requires)) ∙ ap reciprocal (zero-add c.args.profiles))

@@ -45,11 +45,6 @@ overflow_add-sent c =
     let inside : c.loop-i.i < length c.args.records = search rules in
     omega (arith, tick_count _ _ _ _ _ _ _ _ _ _ c.loop-i.invariant inside c.requires _ _ c.tick_record-t.ensures c.if-t.true)
 
-pub loop-i-smaller : goal.loop-i-smaller
-loop-i-smaller c =
-    let inside : c.loop-i.i < length c.args.records = search rules in
-    omega (arith, inside)
-
 pub loop-i-preserved : goal.loop-i-preserved
 loop-i-preserved c =
     let inside : c.loop-i.i < length c.args.records = search rules in

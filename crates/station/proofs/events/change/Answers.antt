@@ -8,21 +8,21 @@ use Rattle.rules.specs.Validation.{toggled_record}
 use Rattle.station.specs.Steps.{anew}
 use Rattle.station.proofs.events.change.Goals as goal
 
-pub returns-then-plugged-2 : goal.returns-then-plugged-2
-returns-then-plugged-2 c =
+pub returns-then-not-plugged : goal.returns-then-not-plugged
+returns-then-not-plugged c = unplugs _ _ _ _ (sym c.plugged.ensures ∙ c.if-not-plugged.true) c.end.ensures
+
+pub returns-then-plugged : goal.returns-then-plugged
+returns-then-plugged c =
     let a = c.args in
     stays _ _ _ _
-    (sym c.plugged-then-plugged.ensures ∙ c.if-plugged-2.true)
-    (sym c.plugged.ensures ∙ c.if-plugged.true)
-    (no_frames a.station _ _ _ _ _ c.anew-next.result _ _ (c.anew-next.ensures ∙ ap (anew a.station a.pilot a.station.clock a.station.state) (c.toggle_all-toggled.ensures ∙ ap (λ (w : Turn). map (toggled_record w) a.station.records) c.turn_of.ensures)) c.without_frames.ensures)
-
-pub returns-else-plugged-2 : goal.returns-else-plugged-2
-returns-else-plugged-2 c =
-    let a = c.args in
-    plugs _ _ _ _
-    (sym c.plugged-then-plugged.ensures ∙ c.if-plugged-2.false)
-    (sym c.plugged.ensures ∙ c.if-plugged.true)
-    (all_freed a.station _ _ _ _ _ _ _ _ c.free_all-free.ensures refl c.anew-next-else-plugged-2.ensures c.without_frames-else-plugged-2.ensures)
+    (sym c.plugged-2.ensures ∙ c.if-plugged.true)
+    (sym c.plugged.ensures ∙ c.if-not-plugged.false)
+    (no_frames a.station _ _ _ _ _ c.anew-next.result _ _ (c.anew-next.ensures ∙ ap (anew a.station a.pilot a.station.clock a.station.state) (c.toggle_all-toggled.ensures ∙ ap (λ (w : Turn). map (toggled_record w) a.station.records) c.turn_of-turn.ensures)) c.without_frames.ensures)
 
 pub returns-else-plugged : goal.returns-else-plugged
-returns-else-plugged c = unplugs _ _ _ _ (sym c.plugged.ensures ∙ c.if-plugged.false) c.end.ensures
+returns-else-plugged c =
+    let a = c.args in
+    plugs _ _ _ _
+    (sym c.plugged-2.ensures ∙ c.if-plugged.false)
+    (sym c.plugged.ensures ∙ c.if-not-plugged.false)
+    (all_freed a.station _ _ _ _ _ _ _ _ c.free_all-free.ensures refl c.anew-next-else-plugged.ensures c.without_frames-else-plugged.ensures)

@@ -1,13 +1,12 @@
--- `station::frames::confirm` meets its contract, by the verdict.
+-- By what the first VALIDATE.REQ comes to.
 use Rattle.messages.specs.Reading.{yes}
-use Rattle.ends.specs.Outcomes.{and_then}
-use Rattle.records.specs.Requests.{verdict_of}
-use Rattle.records.specs.declared.requests.Verdict.{Verdict}
-use Rattle.rules.specs.Frames.{keeps}
+use Rattle.records.specs.Requests.{validated_of}
 use Rattle.rules.specs.Replies.{confirmation, frames_to}
 use Rattle.rules.specs.Stations.{done}
-use Rattle.ends.specs.declared.Indication.TheVariants.{Nothing}
 use Rattle.rules.specs.declared.Record.{Record}
+use Rattle.ends.specs.declared.Indication.TheVariants.{Nothing}
+use Rattle.messages.specs.declared.Refusal.{Refusal}
+use Rattle.std.specs.Prelude.{Result}
 use Rattle.station.proofs.ComesLaws.{comes_as, comes_refused}
 use Rattle.station.specs.Frames.{settled}
 use lib.ListN.{set}
@@ -15,15 +14,15 @@ use mathlib.Core.List.{List, [], ◌∷◌}
 use mathlib.Core.Path.{sym, ap, ◌∙◌}
 use Rattle.station.proofs.frames.confirm.Goals as goal
 
-pub returns-in-Refused : goal.returns-in-Refused
-returns-in-Refused c =
+pub returns-in-Err : goal.returns-in-Err
+returns-in-Err c =
     let a = c.args in
-    comes_refused a.station _ _ a.out.now c.refused.result (ap (λ (v : Verdict). settled c.args.station c.args.i c.args.car (and_then (verdict_of v) (λ (y : Unit {0}). keeps c.args.validated.kept (confirmation 0 c.args.res ∷ [])))) c.in-Refused.is) c.refused.ensures
+    comes_refused a.station _ _ a.out.now c.refused.result (ap (λ (v : Result Record Refusal). settled a.station a.i a.car (validated_of a.res v)) c.in-Err.is) c.refused.ensures
 
-pub returns-in-Accepted : goal.returns-in-Accepted
-returns-in-Accepted c =
+pub returns-in-Ok : goal.returns-in-Ok
+returns-in-Ok c =
     let a = c.args in
     comes_as a.station _ _ a.out.now _ c.validate_cnf.result
     (ap (λ (l : List Record). yes (done a.station.state l (frames_to a.station.config a.car (confirmation 0 a.res ∷ [])) Nothing)) (c.with_record-next.ensures ∙ ap (set a.station.records a.i) c.owned.ensures)
-    ∙ sym (ap (λ (v : Verdict). settled c.args.station c.args.i c.args.car (and_then (verdict_of v) (λ (y : Unit {0}). keeps c.args.validated.kept (confirmation 0 c.args.res ∷ [])))) c.in-Accepted.is))
+    ∙ sym (ap (λ (v : Result Record Refusal). settled a.station a.i a.car (validated_of a.res v)) c.in-Ok.is))
     c.validate_cnf.ensures

@@ -3,8 +3,10 @@ use Rattle.messages.specs.declared.Refusal.TheVariants.{WrongState}
 use Rattle.ends.specs.Outcomes.{and_then}
 use Rattle.station.proofs.ComesLaws.{comes_as, comes_refused, state_other}
 use Rattle.station.proofs.ParmLaws.{admits, parm_answered, parm_inside}
-use Rattle.receiving.specs.AtRecord.{later_at, admission_of}
-use Rattle.receiving.specs.declared.admission.Admission.{Admission}
+use Rattle.receiving.specs.AtRecord.{later_at}
+use Rattle.messages.specs.Answers.{checked_of}
+use Rattle.messages.specs.declared.Refusal.{Refusal}
+use Rattle.std.specs.Prelude.{ℕ, Result}
 use mathlib.Core.Bool.{Bool}
 use mathlib.Core.Path.{sym, ap, ◌∙◌}
 use borrow.Enum.Refused.{opened}
@@ -18,21 +20,21 @@ returns-in_default c =
 pub admit-requires : goal.admit-requires
 admit-requires c =
     let a = c.args in
-    (parm_inside a.station.config a.station.state a.station.records a.car a.run _ c.in-Matching.is c.find-found.result c.find-found.ensures c.place_for-admission.result c.place_for-admission.ensures _ c.in-At.is, c.requires)
+    (parm_inside a.station.config a.station.state a.station.records a.car a.run _ c.in-Matching.is c.find-found.result c.find-found.ensures c.place_for.result c.place_for.ensures _ c.in-Ok.is, c.requires)
 
-pub returns-in-At : goal.returns-in-At
-returns-in-At c =
+pub returns-in-Ok : goal.returns-in-Ok
+returns-in-Ok c =
     let a = c.args in
     comes_as a.station _ _ a.out.now _ c.admit.result
-    (ap (λ (b : Bool). admits a.station.config a.station.state a.station.records a.car a.run _ c.in-Matching.is b c.in-At.i) c.is_later-later.ensures
-    ∙ sym (parm_answered a.station.config a.station.state a.station.records a.car a.run _ c.in-Matching.is c.find-found.result c.find-found.ensures c.place_for-admission.result c.place_for-admission.ensures
-    ∙ ap (λ (y : Admission). and_then (admission_of y) (admits a.station.config a.station.state a.station.records a.car a.run _ c.in-Matching.is (later_at a.station.config.edition c.find-found.result))) c.in-At.is))
+    (ap (λ (b : Bool). admits a.station.config a.station.state a.station.records a.car a.run _ c.in-Matching.is b c.in-Ok.i) c.is_later-later.ensures
+    ∙ sym (parm_answered a.station.config a.station.state a.station.records a.car a.run _ c.in-Matching.is c.find-found.result c.find-found.ensures c.place_for.result c.place_for.ensures
+    ∙ ap (λ (y : Result ℕ Refusal). and_then (checked_of y) (admits a.station.config a.station.state a.station.records a.car a.run _ c.in-Matching.is (later_at a.station.config.edition c.find-found.result))) c.in-Ok.is))
     c.admit.ensures
 
-pub returns-in-Refused : goal.returns-in-Refused
-returns-in-Refused c =
+pub returns-in-Err : goal.returns-in-Err
+returns-in-Err c =
     let a = c.args in
-    comes_refused a.station _ _ a.out.now c.refused-in-Refused.result
-    (parm_answered a.station.config a.station.state a.station.records a.car a.run _ c.in-Matching.is c.find-found.result c.find-found.ensures c.place_for-admission.result c.place_for-admission.ensures
-    ∙ ap (λ (y : Admission). and_then (admission_of y) (admits a.station.config a.station.state a.station.records a.car a.run _ c.in-Matching.is (later_at a.station.config.edition c.find-found.result))) c.in-Refused.is)
-    c.refused-in-Refused.ensures
+    comes_refused a.station _ _ a.out.now c.refused-in-Err.result
+    (parm_answered a.station.config a.station.state a.station.records a.car a.run _ c.in-Matching.is c.find-found.result c.find-found.ensures c.place_for.result c.place_for.ensures
+    ∙ ap (λ (y : Result ℕ Refusal). and_then (checked_of y) (admits a.station.config a.station.state a.station.records a.car a.run _ c.in-Matching.is (later_at a.station.config.edition c.find-found.result))) c.in-Err.is)
+    c.refused-in-Err.ensures

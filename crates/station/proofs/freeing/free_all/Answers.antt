@@ -19,9 +19,6 @@ inside c = search rules
 pub bounds-rs-i : goal.bounds-rs-i
 bounds-rs-i c = omega (arith, inside c)
 
-pub loop-i-smaller : goal.loop-i-smaller
-loop-i-smaller c = omega (arith, inside c)
-
 pub loop-i-preserved : goal.loop-i-preserved
 loop-i-preserved c =
     rw c.freed.ensures (fill_next freed c.args.records c.loop-i.rs c.loop-i.i _ c.loop-i.invariant (inside c))

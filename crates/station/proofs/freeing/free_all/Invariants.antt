@@ -1,12 +1,7 @@
 -- The records freed so far.
-use Prim.Native.Nat.{◌-◌}
-use lib.ListN.{length}
 use Rattle.rules.specs.Records.{freed}
 use Rattle.records.proofs.FillLaws.{Filled}
 use Rattle.station.proofs.freeing.free_all.Given as goal
 
 abbrev pub invariant-loop-i : goal.invariant-loop-i
 invariant-loop-i l = Filled freed l.records l.rs l.i
-
-abbrev pub decreases-loop-i : goal.decreases-loop-i
-decreases-loop-i l = length l.records - l.i

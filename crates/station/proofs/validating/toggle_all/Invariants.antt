@@ -1,12 +1,7 @@
 -- The records toggled so far.
-use Prim.Native.Nat.{◌-◌}
-use lib.ListN.{length}
 use Rattle.rules.specs.Validation.{toggled_record}
 use Rattle.records.proofs.FillLaws.{Filled}
 use Rattle.station.proofs.validating.toggle_all.Given as goal
 
 abbrev pub invariant-loop-i : goal.invariant-loop-i
 invariant-loop-i l = Filled (toggled_record l.turn) l.records l.rs l.i
-
-abbrev pub decreases-loop-i : goal.decreases-loop-i
-decreases-loop-i l = length l.records - l.i
