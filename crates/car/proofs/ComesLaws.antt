@@ -1,42 +1,23 @@
 -- What a rule comes to, from what the code gives: a refusal, a car with nothing sent, and the same in other words.
 use Prim.Native.Nat.{ℕ}
-use mathlib.Core.Path.{◌≡◌, refl, sym, ap, ◌∙◌, subst}
-use mathlib.Core.List.{List, []}
+use mathlib.Core.Path.{◌≡◌, refl, sym, ap, subst}
+use mathlib.Core.List.{List}
 use Rattle.messages.specs.declared.Refusal.{Refusal}
 use Rattle.messages.specs.Answers.{number_of}
 use Rattle.octets.specs.Octets.{splice}
 use Rattle.messages.specs.Reading.{Checked, no, yes}
-use Rattle.ends.specs.declared.Indication.{Indication}
 use Rattle.ends.specs.Answers.{answer_of}
 use Rattle.ends.specs.Lists.{joins}
 use Rattle.ends.specs.Outcomes.{Done}
 use Rattle.car_rules.specs.declared.Car.{Car}
 use Rattle.car_rules.specs.declared.Stepped.{Stepped}
-use Rattle.car_rules.specs.Sending.{Sending, done}
-use Rattle.car.specs.Steps.{refused_as, silent_as, Comes, Gives, Ready}
-
--- the frames of the car d, which is x, can be written where those of c can: their configuration is the same
-pub ready_as : (c d x : Car) (out : List ℕ) → c.config ≡ x.config → d ≡ x → Ready c out → Ready d out
-ready_as c d x out e q y = subst (λ (z : Car). Ready z out) (sym q) (record { address = rw (← e) y.address; room = y.room })
+use Rattle.car.specs.Steps.{refused_as, Comes, Gives}
 
 -- ---- accepted: d is what the rule gives
 
 -- and w is that in other words
 pub gives_as : (d w : Done Car) (entry exit : List ℕ) (r : Stepped) → d ≡ w → Gives w entry exit r → Gives d entry exit r
 gives_as d w entry exit r e g = subst (λ (y : Done Car). Gives y entry exit r) (sym e) g
-
--- the car n, which is c, with something sent
-pub gives_sent : (d : Done Car) (n c : Car) (ms : List Sending) (x : Indication) (entry exit : List ℕ) (r : Stepped) → d ≡ done c ms x → n ≡ c → Gives (done n ms x) entry exit r → Gives d entry exit r
-gives_sent d n c ms x entry exit r e q g = gives_as d (done n ms x) entry exit r (e ∙ sym (ap (λ (y : Car). done y ms x) q)) g
-
--- the car n, which is c, with nothing sent
-pub gives_silent : (d : Done Car) (n c : Car) (x : Indication) (out : List ℕ) (r : Stepped) → d ≡ done c [] x → n ≡ c → r ≡ silent_as n x → Gives d out out r
-unfolding splice joins
-gives_silent d n c x out r e q h = gives_sent d n c [] x out out r e q (record {
-  car = ap (λ (y : Stepped). y.car) h;
-  answer = ap (λ (y : Stepped). answer_of y.answer) h;
-  octets = refl;
-})
 
 -- ---- accepted or refused: x is what the rule gives
 

@@ -1,32 +1,21 @@
 -- Judging a frame, in the rules' words.
-use Prim.Native.Nat.{ℕ, ◌≤◌, ◌<◌}
+use Prim.Native.Nat.{ℕ}
 use mathlib.Core.Path.{◌≡◌, refl, sym, ap, ◌∙◌, subst}
 use mathlib.Core.Bool.{Bool, true, false, not, cond, ◌&&◌}
-use mathlib.Core.List.{List, [], ◌∷◌}
-use borrow.Author.Tests.{not-true, not-false, le-leb, lt-leb, leb-true}
-use denote.Enum.Declared.{tag_of}
+use mathlib.Core.List.{List}
+use borrow.Author.Tests.{leb-true}
 use lib.Dec.{eqb, leb}
 use lib.ListN.{length}
-use types.Run.{OneOf, miss}
 use Rattle.messages.specs.declared.CarAddress.{CarAddress}
 use Rattle.messages.specs.declared.Edition.TheVariants.{Iso}
 use Rattle.messages.specs.declared.Message.{Message}
-use Rattle.messages.specs.declared.Message.TheVariants.{SlacParmReq, SlacParmCnf, StartAttenCharInd, AttenCharInd, AttenCharRsp, MnbcSoundInd, ValidateReq, ValidateCnf, SlacMatchReq, SlacMatchCnf, AttenProfileInd}
-use Rattle.messages.specs.declared.ReadAnswer.{ReadAnswer}
-use Rattle.messages.specs.declared.ReadAnswer.TheVariants as read_answer
 use Rattle.messages.specs.declared.Refusal.{Refusal}
 use Rattle.messages.specs.declared.Refusal.TheVariants.{NotForUs}
-use Rattle.messages.specs.Answers.{number_of, message_of, answer_of}
-use Rattle.messages.specs.Reading.{Checked, no, yes, check, Beside, beside_of, read_rules}
-use Rattle.messages.specs.Table as table
+use Rattle.messages.specs.Answers.{number_of, message_of}
+use Rattle.messages.specs.Reading.{Checked, no, yes, check, Beside}
 use Rattle.messages.specs.Table.{is_unicast}
-use Rattle.messages.proofs.CheckLaws.{pass, fail, passed}
-use Rattle.messages.specs.contracts.Message.{the_type}
-use Rattle.amplitude.specs.Answers as maps
-use Rattle.amplitude.specs.Reading as amplitude
-use Rattle.amplitude.specs.Reading.{summary_of}
-use Rattle.amplitude.specs.declared.ReadAnswer as map_answers
-use Rattle.ends.specs.Outcomes.{Done, and_then, or_else}
+use Rattle.messages.proofs.CheckLaws.{passed}
+use Rattle.ends.specs.Outcomes.{Done, and_then}
 use Rattle.ends.proofs.AnswerLaws.{yes_same}
 use Rattle.ends.proofs.Logic.{clash, OnYes}
 use Rattle.ends.proofs.Logic.{then_check}
@@ -40,53 +29,11 @@ use Rattle.car_rules.specs.Received as rule
 use Rattle.car_rules.specs.Received.{untaken, from_station, message_as, map_in, received, is_for_us}
 use Rattle.car_rules.specs.Rules as rules
 use Rattle.car_rules.proofs.ReceivedLaws.{FromUnicast, received_unicast}
-use Rattle.car.specs.declared.judge.Judged.{Judged}
-use Rattle.car.specs.declared.judge.Judged.TheVariants as judged
+use Rattle.std.specs.Prelude.{Result, Ok, Err}
 use Rattle.car.specs.declared.judge.Received as code
-use Rattle.car.specs.declared.judge.StationMessage.TheVariants.{Untaken}
 use Rattle.car.specs.Judge.{groups_in, Heard, heard_in, for_us_rule, addressed_rule, judge_rule, judged_of, for_us, received_of}
 use Rattle.car.specs.Reports.{ReportsGood}
 use Rattle.car.specs.Steps.{Ready}
-
--- ---- the order of the refusals
-
-module _ (o : Configuration) (room : ℕ) (s : List ℕ) where
-  -- 16
-  pub judged_bad : not o.good ≡ true → no 16 ≡ judge_rule o room s
-  unfolding judge_rule
-  judged_bad g = sym (fail o.good 16 _ (not-true o.good g))
-
-  module _ (g : not o.good ≡ false) where
-    -- 15
-    pub judged_short : room < least_output → no 15 ≡ judge_rule o room s
-    unfolding judge_rule
-    judged_short h = sym (pass o.good 16 _ (not-false o.good g) ∙ fail (leb least_output room) 15 _ (lt-leb least_output room h))
-
-    module _ (h : least_output ≤ room) where
-      -- reading, 19, 7
-      judged_read : judge_rule o room s ≡ for_us_rule o (or_else (read_rules Iso s) message_as (map_in (summary_of (amplitude.read_rules s))))
-      unfolding judge_rule received
-      judged_read = pass o.good 16 _ (not-false o.good g) ∙ pass (leb least_output room) 15 _ (le-leb least_output room h)
-
-      -- by what reading the eleven messages gives
-      abbrev judged_by : Checked table.Message → Checked Heard
-      judged_by x = for_us_rule o (or_else x message_as (map_in (summary_of (amplitude.read_rules s))))
-
-      module _ (a : ReadAnswer) (e : answer_of Iso a (beside_of (read_rules Iso s)) ≡ read_rules Iso s) where
-        -- by what reading answers
-        judged_answer : (b : ReadAnswer) → a ≡ b → judged_by (answer_of Iso b (beside_of (read_rules Iso s))) ≡ judge_rule o room s
-        judged_answer b t =
-            ap (λ (z : ReadAnswer). judged_by (answer_of Iso z (beside_of (read_rules Iso s)))) (sym t)
-            ∙ ap judged_by e
-            ∙ sym judged_read
-
-        -- what cannot be read as one of the eleven messages
-        pub judged_unread : (x : Refusal) (j : Judged) → a ≡ read_answer.Refused x → ((g : List ℕ) → judged_of j g ≡ for_us_rule o (or_else (no (number_of x)) message_as (map_in (summary_of (amplitude.read_rules s))))) → judged_of j (groups_in s) ≡ judge_rule o room s
-        judged_unread x j t p = p (groups_in s) ∙ judged_answer (read_answer.Refused x) t
-
-        -- what was read
-        pub judged_message : (m : Message) (j : Judged) → a ≡ read_answer.Read m → ((b : Beside) → judged_of j b.groups ≡ addressed_rule o (message_of Iso m b)) → judged_of j (groups_in s) ≡ judge_rule o room s
-        judged_message m j t p = p (beside_of (read_rules Iso s)) ∙ judged_answer (read_answer.Read m) t
 
 -- ---- 7 and 19
 
@@ -99,36 +46,14 @@ abbrev heard_of : code.Received → List ℕ → Heard
 heard_of x g = heard_in (received_of 0 x g)
 
 -- what `for_us` gives is 7 or the message
-for_us_rule_lem : (b : Bool) (x : code.Received) (g : List ℕ) → judged_of (cond b (judged.Taken x) (judged.Refused NotForUs)) g ≡ check b 7 (yes (heard_of x g))
+for_us_rule_lem : (b : Bool) (x : code.Received) (g : List ℕ) → judged_of (cond b (Ok x) (Err NotForUs)) g ≡ check b 7 (yes (heard_of x g))
 for_us_rule_lem true x g = refl
 for_us_rule_lem false x g = refl
 
 -- a message of a station, in the message m that was found to be m'
-pub addressed_as : (o : Configuration) (c : CarAddress) (x : code.Received) (m m' : Message) (j : Judged) → j ≡ for_us o c x → m ≡ m'
+pub addressed_as : (o : Configuration) (c : CarAddress) (x : code.Received) (m m' : Message) (j : Result code.Received Refusal) → j ≡ for_us o c x → m ≡ m'
     → ((b : Beside) → check (ours o c x) 7 (yes (heard_of x b.groups)) ≡ addressed_rule o (message_of Iso m' b)) → (b : Beside) → judged_of j b.groups ≡ addressed_rule o (message_of Iso m b)
-addressed_as o c x m m' j e t h b = ap (λ (y : Judged). judged_of y b.groups) e ∙ for_us_rule_lem (ours o c x) x b.groups ∙ h b ∙ sym (ap (λ (y : Message). addressed_rule o (message_of Iso y b)) t)
-
--- a message that no state takes
-pub untaken_as : (o : Configuration) (d f : ℕ) (j : Judged) → j ≡ for_us o (record { 0 = d }) (record { station = record { 0 = f }; run = record { 0 = 0 }; message = Untaken }) → (g : List ℕ) → judged_of j g ≡ for_us_rule o (from_station d f 0 untaken)
-untaken_as o d f j e g = ap (λ (y : Judged). judged_of y g) e ∙ for_us_rule_lem (ours o (record { 0 = d }) (record { station = record { 0 = f }; run = record { 0 = 0 }; message = Untaken })) _ g
-
--- what `map_addressed` gives, of the answer a that was found to be b
-pub map_as_lem : (o : Configuration) (a b : map_answers.ReadAnswer) (y : Checked Heard) → a ≡ b → y ≡ for_us_rule o (map_in (maps.answer_of b)) → y ≡ for_us_rule o (map_in (maps.answer_of a))
-map_as_lem o a b y t h = h ∙ sym (ap (λ (z : map_answers.ReadAnswer). for_us_rule o (map_in (maps.answer_of z))) t)
-
--- 19
-pub only_stations : (o : Configuration) (m : Message) (b : Beside) → OneOf (0 ∷ 2 ∷ 4 ∷ 5 ∷ 6 ∷ 8 ∷ 10 ∷ []) (tag_of the_type m) → no 19 ≡ addressed_rule o (message_of Iso m b)
-only_stations o (SlacParmReq c r) b t = refl
-only_stations o (SlacParmCnf s c a r) b t = absurd (miss (0 ∷ 2 ∷ 4 ∷ 5 ∷ 6 ∷ 8 ∷ 10 ∷ []) 1 tt t)
-only_stations o (StartAttenCharInd c a r) b t = refl
-only_stations o (AttenCharInd s c r n g) b t = absurd (miss (0 ∷ 2 ∷ 4 ∷ 5 ∷ 6 ∷ 8 ∷ 10 ∷ []) 3 tt t)
-only_stations o (AttenCharRsp c s r) b t = refl
-only_stations o (MnbcSoundInd c n r x) b t = refl
-only_stations o (ValidateReq c x d) b t = refl
-only_stations o (ValidateCnf s n c x) b t = absurd (miss (0 ∷ 2 ∷ 4 ∷ 5 ∷ 6 ∷ 8 ∷ 10 ∷ []) 7 tt t)
-only_stations o (SlacMatchReq c s r) b t = refl
-only_stations o (SlacMatchCnf s c r n k) b t = absurd (miss (0 ∷ 2 ∷ 4 ∷ 5 ∷ 6 ∷ 8 ∷ 10 ∷ []) 9 tt t)
-only_stations o (AttenProfileInd m s c g) b t = refl
+addressed_as o c x m m' j e t h b = ap (λ (y : Result code.Received Refusal). judged_of y b.groups) e ∙ for_us_rule_lem (ours o c x) x b.groups ∙ h b ∙ sym (ap (λ (y : Message). addressed_rule o (message_of Iso y b)) t)
 
 -- ---- the frame's rule by what judging gives
 
@@ -158,26 +83,26 @@ station_unicast o (no n) y u e = clash false (passed false n (yes y) y e).0 refl
 station_unicast o (yes z) y u e = subst (λ (h : Heard). is_unicast h.station.0 ≡ true) (yes_same (heard_in z) y (passed (is_for_us o z) 7 (yes (heard_in z)) y e).1) u
 
 -- by what judging answers
-module _ (c : Car) (s out : List ℕ) (j : Judged) (ej : judged_of j (groups_in s) ≡ judge_rule c.config (length out) s) where
-  judged_as : (k : Judged) → j ≡ k → judge_rule c.config (length out) s ≡ judged_of k (groups_in s)
-  judged_as k told = sym ej ∙ ap (λ (x : Judged). judged_of x (groups_in s)) told
+module _ (c : Car) (s out : List ℕ) (j : Result code.Received Refusal) (ej : judged_of j (groups_in s) ≡ judge_rule c.config (length out) s) where
+  judged_as : (k : Result code.Received Refusal) → j ≡ k → judge_rule c.config (length out) s ≡ judged_of k (groups_in s)
+  judged_as k told = sym ej ∙ ap (λ (x : Result code.Received Refusal). judged_of x (groups_in s)) told
 
   -- a refusal
-  pub frame_refused : (n : Refusal) → j ≡ judged.Refused n → rules.rule c (calls.frame s (length out)) ≡ no (number_of n)
-  frame_refused n told = frame_judged c s (length out) ∙ ap (λ (w : Checked Heard). and_then w (taken c)) (judged_as (judged.Refused n) told)
+  pub frame_refused : (n : Refusal) → j ≡ Err n → rules.rule c (calls.frame s (length out)) ≡ no (number_of n)
+  frame_refused n told = frame_judged c s (length out) ∙ ap (λ (w : Checked Heard). and_then w (taken c)) (judged_as (Err n) told)
 
   -- a message
-  module _ (x : code.Received) (told : j ≡ judged.Taken x) where
+  module _ (x : code.Received) (told : j ≡ Ok x) where
     -- what the rule gives
     pub frame_taken : rules.rule c (calls.frame s (length out)) ≡ state_rule c (received_of 0 x (groups_in s))
-    frame_taken = frame_judged c s (length out) ∙ ap (λ (w : Checked Heard). and_then w (taken c)) (judged_as (judged.Taken x) told)
+    frame_taken = frame_judged c s (length out) ∙ ap (λ (w : Checked Heard). and_then w (taken c)) (judged_as (Ok x) told)
 
     -- frames can be written, the reports are as the invariant says, and the station is unicast
     pub frame_ready : Invariant c → Ready c out × ReportsGood c × (is_unicast x.station.0 ≡ true)
     unfolding judge_rule
     frame_ready i =
         let y = heard_of x (groups_in s) in
-        let g = passed c.config.good 16 _ y (judged_as (judged.Taken x) told) in
+        let g = passed c.config.good 16 _ y (judged_as (Ok x) told) in
         let r = passed (leb least_output (length out)) 15 _ y g.1 in (
           record { address = i.config.address g.0; room = leb-true least_output (length out) r.0 },
           record { count = i.count; stations = i.reports },

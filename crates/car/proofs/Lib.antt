@@ -6,4 +6,3 @@ pub mod ChoiceLaws
 pub mod TickLaws
 pub mod JudgeLaws
 pub mod FrameLaws
-pub mod CallLaws

@@ -1,15 +1,14 @@
 -- Sending: each of a car's messages can be written, and it stands in the output.
 use Prim.Native.Nat.{ℕ, ◌-◌, ◌^◌, ◌<◌, ◌≤◌}
 use mathlib.Core.Path.{◌≡◌, refl, sym, ap, ap₂, ◌∙◌, subst}
-use mathlib.Core.Bool.{Bool, true, false, cond, ◌&&◌}
+use mathlib.Core.Bool.{true, ◌&&◌}
 use mathlib.Core.List.{List, [], ◌∷◌}
 use native.Mathlib.Omega.{arith}
-use borrow.Author.Tests.{lt-ltb, le-ltb}
 use lib.Dec.{eqb, ltb}
 use lib.ListN.{length}
 use Rattle.messages.specs.declared.Edition.TheVariants.{Iso}
 use Rattle.messages.specs.declared.Message.{Message}
-use Rattle.messages.specs.declared.Message.TheVariants.{SlacParmReq, StartAttenCharInd, AttenCharRsp, MnbcSoundInd, SlacMatchReq}
+use Rattle.messages.specs.declared.Message.TheVariants.{StartAttenCharInd, AttenCharRsp, MnbcSoundInd, SlacMatchReq}
 use Rattle.messages.specs.declared.StationAddress.{StationAddress}
 use Rattle.messages.specs.Answers.{message_of}
 use Rattle.octets.specs.Octets.{splice}
@@ -18,7 +17,9 @@ use Rattle.messages.specs.Table as table
 use Rattle.messages.specs.Table.{iso_attempt, is_unicast, broadcast}
 use Rattle.messages.specs.Writing.{is_addressed, length_in}
 use Rattle.messages.proofs.WriteLaws.{Typed, head_in, headed, whole_none, none_right}
-use Rattle.ends.specs.declared.Answer.{Answer}
+use Rattle.std.specs.Prelude.{Result}
+use Rattle.messages.specs.declared.Refusal.{Refusal}
+use Rattle.ends.specs.declared.Done.{Done}
 use Rattle.ends.specs.declared.Indication.{Indication}
 use Rattle.ends.specs.Answers.{summary}
 use Rattle.ends.specs.Outcomes.{Outcome, frames_of, joined}
@@ -27,7 +28,7 @@ use Rattle.ends.proofs.SendLaws.{sends_writable}
 use Rattle.car_rules.specs.declared.Car.{Car}
 use Rattle.car_rules.specs.declared.Stepped.{Stepped}
 use Rattle.car_rules.specs.Constants.{start_count, frame_count, least_output}
-use Rattle.car_rules.specs.Sending.{Sending, parm_req, start, sound, rsp, match_req, message_from, frame_from, sounding_frame, done}
+use Rattle.car_rules.specs.Sending.{Sending, start, sound, rsp, match_req, message_from, frame_from, sounding_frame, done}
 use Rattle.ends.proofs.Logic.{on_cond}
 use Rattle.car.specs.Steps.{Gives, Ready, sent_by}
 use Rattle.car.proofs.ComesLaws.{gives_as}
@@ -35,7 +36,7 @@ use Rattle.car.proofs.ComesLaws.{gives_as}
 -- ---- what is sent
 
 -- one frame, with zeros beside its numbers
-pub one_sent : (c : Car) (m : Message) (b : Beside) (x : Indication) (entry exit : List ℕ) (a : Answer) → b ≡ no_beside → Writable (message_of Iso m no_beside) (length entry) → Sends (message_of Iso m b) x entry exit a
+pub one_sent : (c : Car) (m : Message) (b : Beside) (x : Indication) (entry exit : List ℕ) (a : Result Done Refusal) → b ≡ no_beside → Writable (message_of Iso m no_beside) (length entry) → Sends (message_of Iso m b) x entry exit a
     → Gives (sent_by c (message_of Iso m no_beside) x) entry exit (record { car = c; answer = a })
 one_sent c m b x entry exit a e w h =
     let s : Sends (message_of Iso m no_beside) x entry exit a = subst (λ (y : Beside). Sends (message_of Iso m y) x entry exit a) e h in
@@ -49,19 +50,6 @@ one_sent c m b x entry exit a e w h =
 pub sent_as : (c : Car) (m : table.Message) (s : Sending) (x : Indication) (entry exit : List ℕ) (r : Stepped) → m ≡ message_from c s → Gives (sent_by c m x) entry exit r → Gives (done c (s ∷ []) x) entry exit r
 unfolding frame_from
 sent_as c m s x entry exit r e g = gives_as (done c (s ∷ []) x) (sent_by c m x) entry exit r (sym (ap (λ (k : table.Message). sent_by c k x) e)) g
-
--- ---- Sounding's frames
-
-module _ (c : Car) (k : ℕ) where
-  -- by whether it is a START
-  sounding_is : (b : Bool) → ltb k start_count ≡ b → message_from c (cond b start (sound (frame_count - 1 - k))) ≡ message_from c (sounding_frame k)
-  sounding_is b e = sym (ap (λ (x : Bool). message_from c (cond x start (sound (frame_count - 1 - k)))) e)
-
-  pub sounding_start : k < start_count → message_of Iso (StartAttenCharInd c.config.address (record { 0 = iso_attempt }) c.run) no_beside ≡ message_from c (sounding_frame k)
-  sounding_start h = sounding_is true (lt-ltb k start_count h)
-
-  pub sounding_sound : start_count ≤ k → message_of Iso (MnbcSoundInd c.config.address (frame_count - 1 - k) c.run c.random) no_beside ≡ message_from c (sounding_frame k)
-  sounding_sound h = sounding_is false (le-ltb k start_count h)
 
 -- ---- each can be written
 
@@ -83,9 +71,6 @@ module _ (c : Car) (f : Fits c) (out : List ℕ) (y : Ready c out) where
   -- a message to all
   to_all_lem : is_unicast c.config.address.0 && eqb broadcast broadcast ≡ true
   to_all_lem = rw y.address
-
-  pub parm_req_writable : Writable (message_from c parm_req) (length out)
-  parm_req_writable = writable (SlacParmReq c.config.address c.run) f.run refl to_all_lem (omega arith)
 
   -- Sounding's frames
   pub sounding_writable : (k : ℕ) → k < frame_count → Writable (message_from c (sounding_frame k)) (length out)

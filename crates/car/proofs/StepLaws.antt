@@ -1,10 +1,8 @@
 -- A call's promise, from what its rule comes to.
 use Prim.Native.Nat.{ℕ}
 use mathlib.Core.Path.{◌≡◌, refl, sym, subst}
-use mathlib.Core.Bool.{false}
 use mathlib.Core.List.{List}
 use Rattle.messages.specs.declared.Refusal.{Refusal}
-use Rattle.messages.specs.declared.Refusal.TheVariants.{BadConfiguration}
 use Rattle.messages.specs.Answers.{number_of}
 use Rattle.messages.specs.Reading.{Checked, no, yes}
 use Rattle.ends.specs.Outcomes.{Done}
@@ -15,9 +13,12 @@ use Rattle.car_rules.specs.Calls.{Call}
 use Rattle.car_rules.specs.Invariant.{Invariant}
 use Rattle.car_rules.specs.Rules.{rule, step, outcome}
 use Rattle.car_rules.proofs.InvariantKept.{step_keeps}
-use Rattle.car_rules.proofs.Refusals.{bad_refuses}
 use Rattle.car.specs.Steps.{refused_as, Comes, Gives}
 use Rattle.car.proofs.ComesLaws.{comes_as, comes_gives, comes_refused}
+
+-- the invariant is kept
+pub kept_after : (c : Car) (x : Call) → Invariant c → (d : Car) → d ≡ step c x → Invariant d
+kept_after c x i d e = subst Invariant (sym e) (step_keeps c x i)
 
 module _ (c : Car) (x : Call) (i : Invariant c) (r : Stepped) where
   -- by what the rule gives
@@ -25,7 +26,7 @@ module _ (c : Car) (x : Call) (i : Invariant c) (r : Stepped) where
   unfolding step outcome
   promised w entry exit e h =
       let y = comes_as c (rule c x) w entry exit r e h in
-      record { car = y.car; answer = y.answer; octets = y.octets; kept = subst Invariant (sym y.car) (step_keeps c x i) }
+      record { car = y.car; answer = y.answer; octets = y.octets; kept = kept_after c x i r.car y.car }
 
   -- an accepted call
   pub accepted : (d : Done Car) (entry exit : List ℕ) → rule c x ≡ yes d → Gives d entry exit r → Answers c x entry exit r
@@ -34,7 +35,3 @@ module _ (c : Car) (x : Call) (i : Invariant c) (r : Stepped) where
   -- a refusal
   pub refuses : (why : Refusal) (out : List ℕ) → rule c x ≡ no (number_of why) → r ≡ refused_as c why → Answers c x out out r
   refuses why out e q = promised (rule c x) out out refl (comes_refused c (rule c x) why out r e q)
-
-  -- a bad configuration
-  pub unconfigured : (out : List ℕ) → c.config.good ≡ false → r ≡ refused_as c BadConfiguration → Answers c x out out r
-  unconfigured out g q = refuses BadConfiguration out (bad_refuses c x g) q

@@ -1,7 +1,8 @@
 -- What is decided of a frame before the state is looked at.
-use Rattle.std.specs.Prelude.{ℕ, not, cond, ◌&&◌, List, eqb, leb}
+use Rattle.std.specs.Prelude.{ℕ, not, cond, ◌&&◌, List, eqb, leb, Result, Ok, Err}
 use Rattle.messages.specs.declared.CarAddress.{CarAddress}
 use Rattle.messages.specs.declared.Edition.TheVariants.{Iso}
+use Rattle.messages.specs.declared.Refusal.{Refusal}
 use Rattle.messages.specs.declared.Refusal.TheVariants.{NotForUs}
 use Rattle.messages.specs.declared.RunId.{RunId}
 use Rattle.messages.specs.declared.StationAddress.{StationAddress}
@@ -13,8 +14,6 @@ use Rattle.car_rules.specs.declared.Configuration.{Configuration}
 use Rattle.car_rules.specs.Constants.{least_output}
 use Rattle.car_rules.specs.Received as rule
 use Rattle.car_rules.specs.Received.{parm_cnf, report, match_cnf, untaken, message_as, received, is_for_us}
-use Rattle.car.specs.declared.judge.Judged.{Judged}
-use Rattle.car.specs.declared.judge.Judged.TheVariants as judged
 use Rattle.car.specs.declared.judge.Received.{Received}
 use Rattle.car.specs.declared.judge.StationMessage.{StationMessage}
 use Rattle.car.specs.declared.judge.StationMessage.TheVariants.{ParmCnf, Report, MatchCnf, Untaken}
@@ -57,10 +56,10 @@ unfoldable pub judge_rule : Configuration → ℕ → List ℕ → Checked Heard
 judge_rule o room s = check o.good 16 (check (leb least_output room) 15 (for_us_rule o (received s)))
 
 -- what judging answered, with the group values g beside it
-abbrev pub judged_of : Judged → List ℕ → Checked Heard
-judged_of (judged.Refused x) g = no (number_of x)
-judged_of (judged.Taken x) g = yes (record { station = x.station; run = x.run; message = message_of x.message g })
+abbrev pub judged_of : Result Received Refusal → List ℕ → Checked Heard
+judged_of (Err x) g = no (number_of x)
+judged_of (Ok x) g = yes (record { station = x.station; run = x.run; message = message_of x.message g })
 
 -- a message to the car c where that is us and its station is not, else 7
-abbrev pub for_us : Configuration → CarAddress → Received → Judged
-for_us o c x = cond (eqb c.0 o.address.0 && not (eqb x.station.0 o.address.0)) (judged.Taken x) (judged.Refused NotForUs)
+abbrev pub for_us : Configuration → CarAddress → Received → Result Received Refusal
+for_us o c x = cond (eqb c.0 o.address.0 && not (eqb x.station.0 o.address.0)) (Ok x) (Err NotForUs)

@@ -1,13 +1,12 @@
 -- What a call comes to, as the code gives it: the car and the answer, and the output.
-use Rattle.std.specs.Prelude.{ℕ, ◌≤◌, ◌≡◌, true, List, [], ◌∷◌, length}
+use Rattle.std.specs.Prelude.{ℕ, ◌≤◌, ◌≡◌, true, List, [], ◌∷◌, length, Err}
 use Rattle.messages.specs.declared.Refusal.{Refusal}
 use Rattle.octets.specs.Octets.{splice}
 use Rattle.messages.specs.Reading.{Checked, yes}
 use Rattle.messages.specs.Table.{Message, is_unicast}
 use Rattle.messages.specs.Writing as writing
-use Rattle.ends.specs.declared.Answer.TheVariants as answer
 use Rattle.ends.specs.declared.Indication.{Indication}
-use Rattle.ends.specs.Answers.{answer_of, summary}
+use Rattle.ends.specs.Answers.{answer_of, summary, silently}
 use Rattle.ends.specs.Outcomes.{Done, frames_of, joined, next, outcome_of}
 use Rattle.car_rules.specs.declared.Car.{Car}
 use Rattle.car_rules.specs.declared.Stepped.{Stepped}
@@ -15,11 +14,11 @@ use Rattle.car_rules.specs.Constants.{least_output}
 
 -- a refusal's answer, with the car as it was
 abbrev pub refused_as : Car → Refusal → Stepped
-refused_as c x = record { car = c; answer = answer.Refused x }
+refused_as c x = record { car = c; answer = Err x }
 
 -- the answer of an accepted call with no frame, with the car after it
 abbrev pub silent_as : Car → Indication → Stepped
-silent_as c x = record { car = c; answer = answer.Done 0 0 x }
+silent_as c x = record { car = c; answer = silently x }
 
 -- r and the output from entry to exit are what a rule comes to, refused or accepted
 pub record Comes (c : Car) (x : Checked (Done Car)) (entry exit : List ℕ) (r : Stepped) : Type 0 where

@@ -17,14 +17,15 @@ fn is_below(total: u16, mean: u64, reference: u32) -> bool
     requires { mean ≤ 255 }
     ensures { result ≡ ltb total (limit mean reference) }
 {
-    (total as u64) < (GROUPS as u64) * (mean + reference as u64)
+    u64::from(total) < GROUPS as u64 * (mean + u64::from(reference))
 }
 
 // The car Idle, with an indication.
 pub(crate) fn fall(car: Car, indication: Indication) -> Stepped
     ensures { result ≡ silent_as (in_state State.Idle car) indication }
 {
-    cars::silent(cars::in_state(car, State::Idle), indication)
+    let state = State::Idle;
+    cars::silent(Car { state, ..car }, indication)
 }
 
 // MATCH.REQ to the chosen station.
@@ -32,12 +33,12 @@ fn request(car: Car, station: StationAddress, indication: Indication, out: &mut 
     requires { Ready car out.old × (is_unicast station.0 ≡ true) }
     ensures { Gives (requests car station indication) out.old out.new result }
 {
-    let requesting = State::Requesting {
+    let state = State::Requesting {
         left: RESPONSE_TIME,
         retries: RETRIES,
-        station: station,
+        station,
     };
-    sending::match_req(cars::in_state(car, requesting), station, indication, out)
+    sending::match_req(Car { state, ..car }, station, indication, out)
 }
 
 // Found, potentially found or not, by the least total.
@@ -45,26 +46,24 @@ fn decide(car: Car, report: Report, out: &mut [u8]) -> Stepped
     requires { Ready car out.old × (is_unicast report.station.0 ≡ true) }
     ensures { Gives (decided car report) out.old out.new result }
 {
-    let config = car.config;
-    let station = report.station;
-    if is_below(report.total, DIRECT_LIMIT, config.reference) {
+    let Report { station, total } = report;
+    if is_below(total, DIRECT_LIMIT, car.config.reference) {
         return request(car, station, Indication::Found, out);
     }
-    if is_below(report.total, INDIRECT_LIMIT, config.reference) {
+    if is_below(total, INDIRECT_LIMIT, car.config.reference) {
         return request(car, station, Indication::PotentiallyFound, out);
     }
     fall(car, Indication::NotFound)
 }
 
 // The choice: no report, or the station of the least total.
+#[tactic(auto, using(crate::proofs::ChoiceLaws::choice_least, crate::proofs::ChoiceLaws::choice_none), unfolding(octets::specs::Octets::splice, ends::specs::Lists::joins))]
 pub(crate) fn choose(car: Car, out: &mut [u8]) -> Stepped
     requires { Ready car out.old × ReportsGood car }
     ensures { Gives (rule.choice car) out.old out.new result }
 {
-    let reports = car.reports;
-    let count = car.count;
-    if count == 0 {
-        return fall(car, Indication::NoLink);
+    match reports::least(&car.reports[..car.count]) {
+        Some(report) => decide(car, report, out),
+        None => fall(car, Indication::NoLink),
     }
-    decide(car, reports::least(reports, count), out)
 }

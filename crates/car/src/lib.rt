@@ -1,5 +1,6 @@
 // A car's calls, by value: each gives the car afterwards and an answer.
-#![tactic(auto)]
+// `Invariant` is asked for and stands in no type: a type with it would ask it of each caller who writes a `Car`, which none had to prove.
+#![tactic(auto, using(crate::proofs::StepLaws::kept_after), unfolding(car_rules::specs::Rules::rule, car_rules::specs::Rules::step, car_rules::specs::Rules::outcome, car_rules::specs::Rules::is_idle, car_rules::specs::Rules::link_rule, ends::specs::Clock::tick_time, octets::specs::Octets::splice, ends::specs::Lists::joins))]
 
 mod cars;
 mod choice;
@@ -15,8 +16,7 @@ ghost use Rattle.car_rules.specs.Calls as calls;
 ghost use Rattle.car_rules.specs.Invariant.{Invariant};
 
 use car_rules::{Car, LEAST_OUTPUT, State, Stepped};
-use ends::{Indication, TickTime};
-use judge::Judged;
+use ends::Indication;
 use messages::{Random, Refusal, RunId};
 
 // A matching starts, with a run and a random value, at a clock reading: PARM.REQ stands from the output's first octet.
@@ -24,15 +24,13 @@ pub fn start(car: Car, run: RunId, random: Random, reading: u32, out: &mut [u8])
     requires { Invariant car }
     ensures { Answers car (calls.start run random reading (length out.old)) out.old out.new result }
 {
-    let config = car.config;
-    let state = car.state;
-    if !config.good {
+    if !car.config.good {
         return cars::refused(car, Refusal::BadConfiguration);
     }
     if out.len() < LEAST_OUTPUT {
         return cars::refused(car, Refusal::OutputTooShort);
     }
-    let State::Idle = state else {
+    let State::Idle = car.state else {
         return cars::refused(car, Refusal::WrongState);
     };
     sending::parm_req(cars::begun(car, run, random, reading), out)
@@ -43,11 +41,9 @@ pub fn frame(car: Car, octets: &[u8], out: &mut [u8]) -> Stepped
     requires { Invariant car }
     ensures { Answers car (calls.frame octets.now (length out.old)) out.old out.new result }
 {
-    let config = car.config;
-    let judged = judge::judge(config, octets, out.len());
-    match judged {
-        Judged::Refused(refusal) => cars::refused(car, refusal),
-        Judged::Taken(received) => frames::take(car, received, octets, out),
+    match judge::judge(car.config, octets, out.len()) {
+        Ok(received) => frames::take(car, received, octets, out),
+        Err(refusal) => cars::refused(car, refusal),
     }
 }
 
@@ -56,11 +52,12 @@ pub fn tick(car: Car, reading: u32, out: &mut [u8]) -> Stepped
     requires { Invariant car }
     ensures { Answers car (calls.tick reading (length out.old)) out.old out.new result }
 {
-    let config = car.config;
-    let time = ends::tick_time(config.good, LEAST_OUTPUT, out.len(), reading, car.clock);
-    match time {
-        TickTime::Refused(refusal) => cars::refused(car, refusal),
-        TickTime::Elapsed(elapsed) => ticks::run(cars::at_reading(car, reading), elapsed, out),
+    match ends::tick_time(car.config.good, LEAST_OUTPUT, out.len(), reading, car.clock) {
+        Ok(elapsed) => {
+            let clock = reading;
+            ticks::run(Car { clock, ..car }, elapsed, out)
+        }
+        Err(refusal) => cars::refused(car, refusal),
     }
 }
 
@@ -69,18 +66,14 @@ pub fn link_up(car: Car) -> Stepped
     requires { Invariant car }
     ensures { Answers car calls.link_up [] [] result }
 {
-    let config = car.config;
-    let state = car.state;
-    if !config.good {
+    if !car.config.good {
         return cars::refused(car, Refusal::BadConfiguration);
     }
-    let State::Joining { left: _, key } = state else {
+    let State::Joining { key, .. } = car.state else {
         return cars::refused(car, Refusal::WrongState);
     };
-    cars::silent(
-        cars::in_state(car, State::Matched(key)),
-        Indication::LinkEstablished,
-    )
+    let state = State::Matched(key);
+    cars::silent(Car { state, ..car }, Indication::LinkEstablished)
 }
 
 // The matching is terminated.
@@ -88,10 +81,8 @@ pub fn terminate(car: Car) -> Stepped
     requires { Invariant car }
     ensures { Answers car calls.terminate [] [] result }
 {
-    let config = car.config;
-    let state = car.state;
-    if !config.good {
+    if !car.config.good {
         return cars::refused(car, Refusal::BadConfiguration);
     }
-    cars::silent(cars::in_state(car, State::Idle), cars::lost(state))
+    choice::fall(car, cars::lost(car.state))
 }

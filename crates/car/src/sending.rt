@@ -26,23 +26,19 @@ fn sent(car: Car, message: Message, indication: Indication, out: &mut [u8]) -> S
         indication,
         out,
     );
-    Stepped {
-        car: car,
-        answer: answer,
-    }
+    Stepped { car, answer }
 }
 
 // PARM.REQ.
+// `Ready` stands in each contract: it is a fact of a car and an output together, and a type of both would be made and taken apart in each function.
+#[tactic(auto, unfolding(car_rules::specs::Sending::frame_from))]
 pub(crate) fn parm_req(car: Car, out: &mut [u8]) -> Stepped
     requires { Ready car out.old }
     ensures { Gives (done car (parm_req ∷ []) Indication.Nothing) out.old out.new result }
 {
-    let config = car.config;
-    let address = config.address;
-    let run = car.run;
     let message = Message::SlacParmReq {
-        car: address,
-        run: run,
+        car: car.config.address,
+        run: car.run,
     };
     sent(car, message, Indication::Nothing, out)
 }
@@ -52,22 +48,18 @@ fn sounding_message(car: Car, k: u8) -> Message
     requires { k < frame_count }
     ensures { message_of Edition.Iso result no_beside ≡ message_from car (rule.sounding_frame k) }
 {
-    let config = car.config;
-    let address = config.address;
-    let run = car.run;
-    let random = car.random;
     if k < STARTS {
         Message::StartAttenCharInd {
-            car: address,
+            car: car.config.address,
             attempt: Attempt(ISO_ATTEMPT),
-            run: run,
+            run: car.run,
         }
     } else {
         Message::MnbcSoundInd {
-            car: address,
+            car: car.config.address,
             count: SOUNDING_FRAMES - 1 - k,
-            run: run,
-            random: random,
+            run: car.run,
+            random: car.random,
         }
     }
 }
@@ -77,27 +69,26 @@ pub(crate) fn sounding_frame(car: Car, k: u8, out: &mut [u8]) -> Stepped
     requires { Ready car out.old × (k < frame_count) }
     ensures { Gives (done car (rule.sounding_frame k ∷ []) Indication.Nothing) out.old out.new result }
 {
-    let message = sounding_message(car, k);
-    sent(car, message, Indication::Nothing, out)
+    sent(car, sounding_message(car, k), Indication::Nothing, out)
 }
 
 // ATTEN_CHAR.RSP to a station.
+// A station's address is any number (`messages::StationAddress` is what reading and C give), so each contract says that this one is unicast; a type that says so would be undone in each message.
+#[tactic(auto, using(crate::proofs::SendLaws::rsp_writable), unfolding(car_rules::specs::Sending::frame_from))]
 pub(crate) fn response(car: Car, station: StationAddress, out: &mut [u8]) -> Stepped
     requires { Ready car out.old × (is_unicast station.0 ≡ true) }
     ensures { Gives (done car (rsp station ∷ []) Indication.Nothing) out.old out.new result }
 {
-    let config = car.config;
-    let address = config.address;
-    let run = car.run;
     let message = Message::AttenCharRsp {
-        car: address,
-        station: station,
-        run: run,
+        car: car.config.address,
+        station,
+        run: car.run,
     };
     sent(car, message, Indication::Nothing, out)
 }
 
 // MATCH.REQ to a station, with an indication.
+#[tactic(auto, using(crate::proofs::SendLaws::match_req_writable), unfolding(car_rules::specs::Sending::frame_from))]
 pub(crate) fn match_req(
     car: Car,
     station: StationAddress,
@@ -107,13 +98,10 @@ pub(crate) fn match_req(
     requires { Ready car out.old × (is_unicast station.0 ≡ true) }
     ensures { Gives (done car (match_req station ∷ []) indication) out.old out.new result }
 {
-    let config = car.config;
-    let address = config.address;
-    let run = car.run;
     let message = Message::SlacMatchReq {
-        car: address,
-        station: station,
-        run: run,
+        car: car.config.address,
+        station,
+        run: car.run,
     };
     sent(car, message, indication, out)
 }

@@ -1,4 +1,6 @@
 // What so many milliseconds come to in each state.
+#![tactic(auto, unfolding(car_rules::specs::Ticks::tick_done, octets::specs::Octets::splice, ends::specs::Lists::joins))]
+
 ghost use Rattle.std.specs.Prelude.{ℕ, ◌<◌, ◌≡◌, true, List};
 ghost use Rattle.messages.specs.Table.{is_unicast};
 ghost use Rattle.car_rules.specs.Cars.{in_state};
@@ -18,7 +20,7 @@ use messages::StationAddress;
 fn wait(car: Car, state: State) -> Stepped
     ensures { result ≡ silent_as (in_state state car) Indication.Nothing }
 {
-    cars::silent(cars::in_state(car, state), Indication::Nothing)
+    cars::silent(Car { state, ..car }, Indication::Nothing)
 }
 
 // Asking: PARM.REQ again, or no link.
@@ -28,22 +30,16 @@ fn asking(car: Car, time: u32, retries: u8, elapsed: u32, out: &mut [u8]) -> Ste
 {
     let left = ends::left_after(time, elapsed);
     if left != 0 {
-        return wait(
-            car,
-            State::Asking {
-                left: left,
-                retries: retries,
-            },
-        );
+        return wait(car, State::Asking { left, retries });
     }
     if retries == 0 {
         return choice::fall(car, Indication::NoLink);
     }
-    let again = State::Asking {
+    let state = State::Asking {
         left: RESPONSE_TIME,
         retries: retries - 1,
     };
-    sending::parm_req(cars::in_state(car, again), out)
+    sending::parm_req(Car { state, ..car }, out)
 }
 
 // Frame k of Sounding, with so much left to gather.
@@ -51,12 +47,12 @@ fn sound(car: Car, k: u8, gathering: u32, out: &mut [u8]) -> Stepped
     requires { Ready car out.old × (k < frame_count) }
     ensures { Gives (rule.sounds car k gathering) out.old out.new result }
 {
-    let next = State::Sounding {
+    let state = State::Sounding {
         sent: k + 1,
         next: SPACING,
         left: gathering,
     };
-    sending::sounding_frame(cars::in_state(car, next), k, out)
+    sending::sounding_frame(Car { state, ..car }, k, out)
 }
 
 // Confirmed: the first frame of Sounding.
@@ -72,39 +68,18 @@ fn confirmed(car: Car, time: u32, elapsed: u32, out: &mut [u8]) -> Stepped
 }
 
 // The next frame of Sounding, while there is one: its time fires or runs down.
-fn next_frame(
-    car: Car,
-    sent: u8,
-    time: u32,
-    gathering: u32,
-    elapsed: u32,
-    out: &mut [u8],
-) -> Stepped
+fn next_frame(car: Car, sent: u8, next: u32, left: u32, elapsed: u32, out: &mut [u8]) -> Stepped
     requires { Ready car out.old }
-    ensures { Gives (next_frame elapsed car sent time gathering) out.old out.new result }
+    ensures { Gives (next_frame elapsed car sent next left) out.old out.new result }
 {
-    let left = ends::left_after(time, elapsed);
-    if SOUNDING_FRAMES <= sent {
-        return wait(
-            car,
-            State::Sounding {
-                sent: sent,
-                next: time,
-                left: gathering,
-            },
-        );
+    if sent >= SOUNDING_FRAMES {
+        return wait(car, State::Sounding { sent, next, left });
     }
-    if left != 0 {
-        return wait(
-            car,
-            State::Sounding {
-                sent: sent,
-                next: left,
-                left: gathering,
-            },
-        );
+    let next = ends::left_after(next, elapsed);
+    if next != 0 {
+        return wait(car, State::Sounding { sent, next, left });
     }
-    sound(car, sent, gathering, out)
+    sound(car, sent, left, out)
 }
 
 // Sounding: the choice where the gathering ends, else the next frame.
@@ -137,26 +112,21 @@ fn requesting(
         return wait(
             car,
             State::Requesting {
-                left: left,
-                retries: retries,
-                station: station,
+                left,
+                retries,
+                station,
             },
         );
     }
     if retries == 0 {
         return choice::fall(car, Indication::NoLink);
     }
-    let again = State::Requesting {
+    let state = State::Requesting {
         left: RESPONSE_TIME,
         retries: retries - 1,
-        station: station,
-    };
-    sending::match_req(
-        cars::in_state(car, again),
         station,
-        Indication::Nothing,
-        out,
-    )
+    };
+    sending::match_req(Car { state, ..car }, station, Indication::Nothing, out)
 }
 
 // Joining: no link where its time fires.
@@ -167,13 +137,7 @@ fn joining(car: Car, time: u32, key: Key, elapsed: u32) -> Stepped
     if left == 0 {
         choice::fall(car, Indication::NoLink)
     } else {
-        wait(
-            car,
-            State::Joining {
-                left: left,
-                key: key,
-            },
-        )
+        wait(car, State::Joining { left, key })
     }
 }
 
@@ -182,25 +146,16 @@ pub(crate) fn run(car: Car, elapsed: u32, out: &mut [u8]) -> Stepped
     requires { Ready car out.old × ReportsGood car × InState car.state }
     ensures { Gives (tick_done elapsed car car.state) out.old out.new result }
 {
-    let state = car.state;
-    match state {
-        State::Idle => cars::silent(car, Indication::Nothing),
-        State::Asking {
-            left: time,
-            retries,
-        } => asking(car, time, retries, elapsed, out),
-        State::Confirmed(time) => confirmed(car, time, elapsed, out),
-        State::Sounding {
-            sent,
-            next,
-            left: time,
-        } => sounding(car, sent, next, time, elapsed, out),
+    match car.state {
+        State::Idle | State::Matched(_) => cars::silent(car, Indication::Nothing),
+        State::Asking { left, retries } => asking(car, left, retries, elapsed, out),
+        State::Confirmed(left) => confirmed(car, left, elapsed, out),
+        State::Sounding { sent, next, left } => sounding(car, sent, next, left, elapsed, out),
         State::Requesting {
-            left: time,
+            left,
             retries,
             station,
-        } => requesting(car, time, retries, station, elapsed, out),
-        State::Joining { left: time, key } => joining(car, time, key, elapsed),
-        State::Matched(_) => cars::silent(car, Indication::Nothing),
+        } => requesting(car, left, retries, station, elapsed, out),
+        State::Joining { left, key } => joining(car, left, key, elapsed),
     }
 }
