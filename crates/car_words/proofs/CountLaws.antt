@@ -1,16 +1,14 @@
 -- How many reports are kept: what holds of them, and the steps of the loop that counts them.
 use Prim.Native.Nat.{ℕ, zero, suc, ◌+◌, ◌-◌, ◌≤◌, ◌<◌}
 use mathlib.Core.Path.{◌≡◌, refl, sym, ap, ap₂, ◌∙◌}
-use mathlib.Core.Bool.{Bool, true, false, not, ◌||◌}
+use mathlib.Core.Bool.{Bool, true, false}
 use mathlib.Core.List.{List, [], ◌∷◌}
 use native.Mathlib.Omega.{arith}
-use borrow.Author.Tests.{leb-true, leb-false, not-true, not-false}
-use lib.Dec.{leb}
 use lib.ListN.{length, get_or, take, drop, drop_of_length-le}
 use Rattle.messages.specs.Table.{is_unicast}
 use Rattle.ends.specs.Lists.{All}
 use Rattle.ends.proofs.ListLaws.{drop_next}
-use Rattle.ends.proofs.Logic.{split, or_left, or_right}
+use Rattle.ends.proofs.Logic.{split}
 use Rattle.car_rules.specs.declared.Report.{Report}
 use Rattle.car_rules.specs.Constants.{station_count}
 use Rattle.car_words.specs.Words.{count_in}
@@ -66,36 +64,37 @@ count_none (r ∷ rs) = refl
 
 -- before the report at i: those before it are kept, and those from it on are left to count
 pub record Counting (most : ℕ) (rs : List Report) (i : ℕ) : Type 0 where
-  pub turns : i ≤ station_count
   pub left : count_in most rs ≡ i + count_in (most - i) (drop i rs)
 
 pub counting_start : (most : ℕ) (rs : List Report) → Counting most rs 0
 counting_start most rs =
     let m : most ≡ most - 0 = omega arith in
     let e : count_in most rs ≡ count_in (most - 0) rs = ap (λ (n : ℕ). count_in n rs) m in
-    record { turns = omega arith; left = omega arith }
+    record { left = omega arith }
 
-pub counting_end : (most : ℕ) (rs : List Report) (i : ℕ) → Counting most rs i → station_count ≤ i → length rs ≡ station_count → station_count ≡ count_in most rs
+pub counting_end : (most : ℕ) (rs : List Report) (i : ℕ) → Counting most rs i → i ≡ station_count → length rs ≡ station_count → station_count ≡ count_in most rs
 unfolding count_in
 counting_end most rs i k h l =
     let b : length rs ≤ i = omega arith in
     let z : count_in (most - i) (drop i rs) ≡ 0 = ap (count_in (most - i)) (drop_of_length-le rs b) in
-    omega (arith, k.turns, k.left)
+    omega (arith, k.left)
+
+-- so many reports are kept as may be
+pub counting_most : (most : ℕ) (rs : List Report) (i : ℕ) → Counting most rs i → most ≤ i → i ≡ count_in most rs
+counting_most most rs i k h =
+    let m : most - i ≡ 0 = omega arith in
+    omega (arith, k.left, ap (λ (n : ℕ). count_in n (drop i rs)) m, count_none (drop i rs))
 
 module _ (most : ℕ) (rs : List Report) (i : ℕ) (z : Report) (k : Counting most rs i) (h : i < length rs) (u : Bool) (e : u ≡ is_unicast_report (get_or rs i z)) where
   -- the report at i is not kept
-  pub counting_stop : leb most i || not u ≡ true → i ≡ count_in most rs
-  counting_stop t =
-      let none : count_in (most - i) (drop i rs) ≡ 0 =
-      split (leb most i)
-      (λ a. let m : most - i ≡ 0 = omega (arith, leb-true most i a) in ap (λ (n : ℕ). count_in n (drop i rs)) m ∙ count_none (drop i rs))
-      (λ a. ap (count_in (most - i)) (drop_next rs i z h) ∙ count_other (most - i) (get_or rs i z) (drop (i + 1) rs) (sym e ∙ not-true u (rw a at t))) in
+  pub counting_other : u ≡ false → i ≡ count_in most rs
+  counting_other f =
+      let none : count_in (most - i) (drop i rs) ≡ 0 = ap (count_in (most - i)) (drop_next rs i z h) ∙ count_other (most - i) (get_or rs i z) (drop (i + 1) rs) (sym e ∙ f) in
       omega (arith, k.left)
 
   -- it is
-  pub counting_next : leb most i || not u ≡ false → i < station_count → Counting most rs (i + 1)
-  counting_next f g =
-      let m : most - i ≡ suc (most - (i + 1)) = omega (arith, leb-false most i (or_left (leb most i) (not u) f)) in
-      let one : count_in (most - i) (drop i rs) ≡ suc (count_in (most - (i + 1)) (drop (i + 1) rs)) =
-      ap₂ count_in m (drop_next rs i z h) ∙ count_one (most - (i + 1)) (get_or rs i z) (drop (i + 1) rs) (sym e ∙ not-false u (or_right (leb most i) (not u) f)) in
-      record { turns = omega arith; left = omega (arith, k.left) }
+  pub counting_next : i < most → u ≡ true → Counting most rs (i + 1)
+  counting_next b t =
+      let m : most - i ≡ suc (most - (i + 1)) = omega arith in
+      let one : count_in (most - i) (drop i rs) ≡ suc (count_in (most - (i + 1)) (drop (i + 1) rs)) = ap₂ count_in m (drop_next rs i z h) ∙ count_one (most - (i + 1)) (get_or rs i z) (drop (i + 1) rs) (sym e ∙ t) in
+      record { left = omega (arith, k.left) }

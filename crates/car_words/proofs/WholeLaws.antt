@@ -18,7 +18,6 @@ use Rattle.car_words.proofs.ReportWords.{place, length_reports, report_at, repor
 
 -- the reports before i are read
 pub record ReadSo (w : List ℕ) (rs : List Report) (i : ℕ) : Type 0 where
-  pub turns : i ≤ station_count
   pub size : length rs ≡ station_count
   pub done : take i rs ≡ take i (reports_in w)
 
@@ -27,7 +26,6 @@ module _ (w : List ℕ) (rs : List Report) (i : ℕ) (q : ReadSo w rs i) where
   read_next r h e =
       let l : i < length (reports_in w) = rw (length_reports w) h in
       record {
-        turns = omega arith;
         size = length-set rs i r ∙ q.size;
         done = ap (λ (x : Report). take (i + 1) (set rs i x)) (e ∙ sym (report_at w i h)) ∙ take_more rs (reports_in w) i (report_of []) q.done (omega (arith, q.size)) l;
       }
@@ -39,13 +37,12 @@ module _ (w : List ℕ) (rs : List Report) (i : ℕ) (q : ReadSo w rs i) where
 
 -- the reports before i are stored, and the head is the same
 pub record StoredSo (rs : List Report) (w₀ w : List ℕ) (i : ℕ) : Type 0 where
-  pub turns : i ≤ station_count
   pub size : length w ≡ length w₀
   pub head : SameHead w w₀
   pub done : take i (reports_in w) ≡ take i rs
 
 pub stored_start : (rs : List Report) (w : List ℕ) → StoredSo rs w w 0
-stored_start rs w = record { turns = omega arith; size = refl; head = λ j h. refl; done = refl }
+stored_start rs w = record { size = refl; head = λ j h. refl; done = refl }
 
 module _ (rs : List Report) (w₀ w : List ℕ) (i : ℕ) (q : StoredSo rs w₀ w i) where
   pub stored_next : (z : Report) (own v : List ℕ) → i < station_count → i < length rs → length w ≡ word_count → own ≡ words_of (get_or rs i z) → (get_or rs i z).total < 2 ^ 16 → v ≡ sets w (place i) own
@@ -55,7 +52,6 @@ module _ (rs : List Report) (w₀ w : List ℕ) (i : ℕ) (q : StoredSo rs w₀ 
       let new : reports_in v ≡ set (reports_in w) i (get_or rs i z) =
       ap reports_in e ∙ report_put w own i h lw (ap length eo) ∙ ap (set (reports_in w) i) (ap report_of eo ∙ report_back (get_or rs i z) b) in
       record {
-        turns = omega arith;
         size = ap length e ∙ length-sets w (place i) own ∙ q.size;
         head = λ j a. ap (λ (u : List ℕ). get_or u j 0) e ∙ get_d_before own w (place i) j 0 (omega arith) ∙ q.head j a;
         done = ap (take (i + 1)) new ∙ take_more (reports_in w) rs i z q.done l k;

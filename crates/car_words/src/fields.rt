@@ -15,14 +15,14 @@ fn requesting(left: u64, retries: u64, station: StationAddress) -> State
         State::Requesting {
             left: fields::time(RESPONSE_TIME, left),
             retries: fields::at_most_count(RETRIES, retries),
-            station: station,
+            station,
         }
     } else {
         State::Idle
     }
 }
 
-// A state by its number; any other number is Idle.
+// A state by its number, which any word of the C interface may be; a number that is no other state's is Idle.
 pub(crate) fn state(number: u64, left: u64, count: u64, next: u64, key: Key) -> State
     ensures { result ≡ state_by number left count next key }
 {
@@ -40,7 +40,7 @@ pub(crate) fn state(number: u64, left: u64, count: u64, next: u64, key: Key) -> 
         4 => requesting(left, count, key.station),
         5 => State::Joining {
             left: fields::time(JOINING_TIME, left),
-            key: key,
+            key,
         },
         6 => State::Matched(key),
         _ => State::Idle,
@@ -52,21 +52,12 @@ pub(crate) fn state_time(state: State) -> u32
     ensures { result ≡ state_time state }
 {
     match state {
-        State::Idle => 0,
-        State::Asking { left, retries: _ } => left,
-        State::Confirmed(left) => left,
-        State::Sounding {
-            sent: _,
-            next: _,
-            left,
-        } => left,
-        State::Requesting {
-            left,
-            retries: _,
-            station: _,
-        } => left,
-        State::Joining { left, key: _ } => left,
-        State::Matched(_) => 0,
+        State::Idle | State::Matched(_) => 0,
+        State::Asking { left, .. }
+        | State::Confirmed(left)
+        | State::Sounding { left, .. }
+        | State::Requesting { left, .. }
+        | State::Joining { left, .. } => left,
     }
 }
 
@@ -75,21 +66,9 @@ pub(crate) fn state_count(state: State) -> u8
     ensures { result ≡ state_count state }
 {
     match state {
-        State::Idle => 0,
-        State::Asking { left: _, retries } => retries,
-        State::Confirmed(_) => 0,
-        State::Sounding {
-            sent,
-            next: _,
-            left: _,
-        } => sent,
-        State::Requesting {
-            left: _,
-            retries,
-            station: _,
-        } => retries,
-        State::Joining { left: _, key: _ } => 0,
-        State::Matched(_) => 0,
+        State::Asking { retries, .. } | State::Requesting { retries, .. } => retries,
+        State::Sounding { sent, .. } => sent,
+        _ => 0,
     }
 }
 
@@ -97,13 +76,10 @@ pub(crate) fn state_count(state: State) -> u8
 pub(crate) fn state_next(state: State) -> u32
     ensures { result ≡ state_next state }
 {
-    match state {
-        State::Sounding {
-            sent: _,
-            next,
-            left: _,
-        } => next,
-        _ => 0,
+    if let State::Sounding { next, .. } = state {
+        next
+    } else {
+        0
     }
 }
 
@@ -112,7 +88,7 @@ fn key_of(station: StationAddress) -> Key
     ensures { result ≡ no_key station }
 {
     Key {
-        station: station,
+        station,
         nid: Nid(0),
         nmk: Nmk(0, 0),
     }
@@ -123,13 +99,8 @@ pub(crate) fn state_key(state: State) -> Key
     ensures { result ≡ state_key state }
 {
     match state {
-        State::Requesting {
-            left: _,
-            retries: _,
-            station,
-        } => key_of(station),
-        State::Joining { left: _, key } => key,
-        State::Matched(key) => key,
+        State::Requesting { station, .. } => key_of(station),
+        State::Joining { key, .. } | State::Matched(key) => key,
         _ => key_of(StationAddress(0)),
     }
 }

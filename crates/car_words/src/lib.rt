@@ -4,15 +4,17 @@
 mod fields;
 mod head;
 mod reports;
-mod whole;
 
 ghost use Rattle.std.specs.Prelude.{◌≡◌};
 ghost use Rattle.car_rules.specs.Invariant.{Invariant};
 ghost use Rattle.car_words.specs.Wiped.{Wiped};
-ghost use Rattle.car_words.specs.Words.{state_of, car_of};
+ghost use Rattle.car_words.specs.Words.{car_of};
 ghost use Rattle.car_words.specs.Written.{state_number};
 
 use car_rules::{Car, STATIONS, State};
+use ends::fields::low;
+pub use head::state_of;
+use messages::{Random, RunId};
 
 // How many words the head has.
 pub const HEAD: usize = 16;
@@ -26,35 +28,17 @@ pub const WORDS: usize = HEAD + WIDTH * STATIONS;
 // The words of a car: the head, then the reports.
 pub type CarWords = [u64; WORDS];
 
-// The state.
-pub fn state_of(words: &CarWords) -> State
-    ensures { result ≡ state_of words.now }
-{
-    head::state(words)
-}
-
-// The number of a state: 0 Idle, 1 Asking, 2 Confirmed, 3 Sounding, 4 Requesting, 5 Joining, 6 Matched.
+// The number of a state: 0 Idle, 1 Asking, 2 Confirmed, 3 Sounding, 4 Requesting, 5 Joining, 6 Matched; the C interface gives it.
 pub fn state_number(state: State) -> u32
     ensures { result ≡ state_number state }
 {
     match state {
         State::Idle => 0,
-        State::Asking {
-            left: _,
-            retries: _,
-        } => 1,
+        State::Asking { .. } => 1,
         State::Confirmed(_) => 2,
-        State::Sounding {
-            sent: _,
-            next: _,
-            left: _,
-        } => 3,
-        State::Requesting {
-            left: _,
-            retries: _,
-            station: _,
-        } => 4,
-        State::Joining { left: _, key: _ } => 5,
+        State::Sounding { .. } => 3,
+        State::Requesting { .. } => 4,
+        State::Joining { .. } => 5,
         State::Matched(_) => 6,
     }
 }
@@ -63,7 +47,16 @@ pub fn state_number(state: State) -> u32
 pub fn unpack(words: &CarWords) -> Car
     ensures { (result ≡ car_of words.now) × Invariant result }
 {
-    whole::unpack(words)
+    let reports = reports::read(words);
+    Car {
+        config: head::config(words),
+        state: state_of(words),
+        clock: low(words[11]),
+        run: RunId(words[12]),
+        random: Random(words[13], words[14]),
+        reports,
+        count: reports::count(reports, words[15]),
+    }
 }
 
 // Stores a car.
@@ -71,12 +64,13 @@ pub fn pack(car: Car, words: &mut CarWords)
     requires { Invariant car }
     ensures { car_of words.new ≡ car }
 {
-    whole::pack(car, words);
+    head::put(words, car);
+    reports::store(car.reports, words);
 }
 
 // Wipes a car, its key too: it answers 16 to everything.
 pub fn wipe(words: &mut CarWords)
     ensures { Wiped words.new }
 {
-    whole::wipe(words);
+    words.fill(0);
 }

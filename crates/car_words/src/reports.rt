@@ -1,17 +1,17 @@
 // The reports: read out of their words, and stored in them.
-ghost use Rattle.std.specs.Prelude.{◌+◌, ◌*◌, ◌<◌, ◌^◌, ◌≡◌, length};
+ghost use Rattle.std.specs.Prelude.{◌+◌, ◌*◌, ◌<◌, ◌^◌, ◌≡◌};
 ghost use Rattle.octets.specs.Octets.{part};
 ghost use Rattle.car_rules.specs.Constants.{station_count};
-ghost use Rattle.car_words.specs.Words.{head_count, width, word_count, report_of, reports_in, count_in};
+ghost use Rattle.car_words.specs.Words.{head_count, width, report_of, reports_in, count_in};
 ghost use Rattle.car_words.specs.Written.{words_of, ReportsStored};
 
-use crate::{HEAD, WIDTH};
+use crate::{CarWords, HEAD, WIDTH};
 use car_rules::{Report, ReportArray, STATIONS};
 use messages::StationAddress;
 
 // The report at a place.
-fn report_at(words: &[u64], i: usize) -> Report
-    requires { (i < station_count) × (length words.now ≡ word_count) }
+fn report_at(words: &CarWords, i: usize) -> Report
+    requires { i < station_count }
     ensures { result ≡ report_of (part words.now (head_count + width * i) width) }
 {
     let at = HEAD + WIDTH * i;
@@ -22,15 +22,12 @@ fn report_at(words: &[u64], i: usize) -> Report
 }
 
 // All reports.
-pub(crate) fn read(words: &[u64]) -> ReportArray
-    requires { length words.now ≡ word_count }
+pub(crate) fn read(words: &CarWords) -> ReportArray
     ensures { result ≡ reports_in words.now }
 {
     let mut rs = car_rules::no_reports();
-    let mut i: usize = 0;
-    while i < STATIONS {
+    for i in 0..STATIONS {
         rs[i] = report_at(words, i);
-        i = i + 1;
     }
     rs
 }
@@ -39,14 +36,10 @@ pub(crate) fn read(words: &[u64]) -> ReportArray
 pub(crate) fn count(reports: ReportArray, most: u64) -> usize
     ensures { result ≡ count_in most reports }
 {
-    let mut i: usize = 0;
-    while i < STATIONS {
-        let r = reports[i];
-        let station = r.station;
-        if (most <= i as u64) | !messages::is_unicast(station.0) {
+    for i in 0..STATIONS {
+        if most <= i as u64 || !messages::is_unicast(reports[i].station.0) {
             return i;
         }
-        i = i + 1;
     }
     STATIONS
 }
@@ -55,19 +48,14 @@ pub(crate) fn count(reports: ReportArray, most: u64) -> usize
 fn report_words(r: Report) -> [u64; WIDTH]
     ensures { (result ≡ words_of r) × (r.total < 2 ^ 16) }
 {
-    let station = r.station;
-    [station.0, ends::fields::from16(r.total)]
+    [r.station.0, u64::from(r.total)]
 }
 
 // Stores all reports.
-pub(crate) fn store(reports: ReportArray, words: &mut [u64])
-    requires { length words.old ≡ word_count }
+pub(crate) fn store(reports: ReportArray, words: &mut CarWords)
     ensures { ReportsStored reports words.old words.new }
 {
-    let mut i: usize = 0;
-    while i < STATIONS {
-        let own = report_words(reports[i]);
-        ends::runs::put_words(&own, words, HEAD + WIDTH * i);
-        i = i + 1;
+    for i in 0..STATIONS {
+        ends::runs::put_words(&report_words(reports[i]), words, HEAD + WIDTH * i);
     }
 }

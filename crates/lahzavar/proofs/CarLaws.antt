@@ -1,26 +1,19 @@
 -- What a call on a lent car promises, from the call by value and what was stored of it.
 use Prim.Native.Nat.{ℕ}
-use mathlib.Core.Path.{◌≡◌, sym, ap, ◌∙◌, subst}
+use mathlib.Core.Path.{◌≡◌, ap, ◌∙◌, subst}
 use mathlib.Core.List.{List}
 use Rattle.messages.specs.declared.CarAddress.{CarAddress}
-use Rattle.messages.specs.declared.Refusal.{Refusal}
-use Rattle.messages.specs.Answers.{number_of}
 use Rattle.ends.specs.Answers.{answer_of}
 use Rattle.car_rules.specs.declared.Car.{Car}
-use Rattle.car_rules.specs.declared.Key.{Key}
-use Rattle.car_rules.specs.declared.KeyAnswer.{KeyAnswer}
-use Rattle.car_rules.specs.declared.KeyAnswer.TheVariants as key_answer
 use Rattle.car_rules.specs.declared.Stepped.{Stepped}
 use Rattle.car_rules.specs.Answers as rules
-use Rattle.car_rules.specs.Answers.{key_of}
 use Rattle.car_rules.specs.Calls.{Call}
 use Rattle.car_rules.specs.Rules.{outcome}
 use Rattle.car_rules.proofs.Refusals.{refused_car}
 use Rattle.car_words.specs.Words.{car_of}
 use Rattle.lahzavar.specs.declared.Answered.{Answered}
-use Rattle.lahzavar.specs.declared.car_calls.KeyAnswered.{KeyAnswered}
 use Rattle.lahzavar.specs.Answers.{said_of, answered}
-use Rattle.lahzavar.specs.Car.{Lent, Configures, Settles, key_as}
+use Rattle.lahzavar.specs.Car.{Lent, Configures, Settles}
 use Rattle.lahzavar.proofs.LentLaws.{settled_means}
 
 module _ (x : Call) (w entry exit v : List ℕ) (r : Answered) where
@@ -42,10 +35,3 @@ module _ (x : Call) (w entry exit v : List ℕ) (r : Answered) where
 -- configuring
 pub car_configured : (a : CarAddress) (n : ℕ) (k : Stepped) (v : List ℕ) (r : Answered) → rules.Configures a n k → car_of v ≡ k.car → r ≡ said_of (answer_of k.answer) → Configures a n v r
 car_configured a n k v r c e q = record { car = e ∙ c.car; answer = q ∙ ap said_of c.answer }
-
--- the key query's answer: a refusal, and a key
-pub key_refused : (a : KeyAnswer) (x : Refusal) (n : ℕ) → a ≡ key_answer.Refused x → n ≡ number_of x → record { refusal = n; station = 0; nid = 0; first = 0; last = 0 } ≡ key_as (key_of a)
-key_refused a x n e q = ap (λ (k : ℕ). let y : KeyAnswered = record { refusal = k; station = 0; nid = 0; first = 0; last = 0 } in y) q ∙ sym (ap (λ (b : KeyAnswer). key_as (key_of b)) e)
-
-pub key_given : (a : KeyAnswer) (k : Key) → a ≡ key_answer.Given k → record { refusal = 0; station = k.station.0; nid = k.nid.0; first = k.nmk.0; last = k.nmk.1 } ≡ key_as (key_of a)
-key_given a k e = sym (ap (λ (b : KeyAnswer). key_as (key_of b)) e)

@@ -29,7 +29,9 @@ use Rattle.ends.specs.Sending.{Writable}
 use Rattle.ends.proofs.SendLaws.{sends_writable}
 use Rattle.messages.specs.Table.{Message}
 use Rattle.messages.specs.Writing.{frame}
-use Rattle.ends.specs.declared.Answer.{Answer}
+use Rattle.std.specs.Prelude.{Result, Ok, Err, Option, Some, None}
+use Rattle.ends.specs.declared.Done as ends
+use Rattle.messages.specs.Answers.{checked_of}
 use Rattle.rules.specs.Received.{RecordMessage, parm_req, Request, for_record}
 use Rattle.rules.specs.FromOctets.{OctetRequest}
 use Rattle.rules.specs.Records.{fresh}
@@ -39,15 +41,11 @@ use Rattle.rules.specs.Stations.{Done, shared, inner}
 use Rattle.rules.specs.Validation.{first_result}
 use Rattle.rules.specs.contracts.State.{the_type}
 use Rattle.records.specs.declared.find.Found.{Found}
-use Rattle.records.specs.declared.find.Found.TheVariants.{Own}
-use Rattle.records.specs.Places.{own_from, place_of}
-use Rattle.records.specs.contracts.find.Found as places
+use Rattle.records.specs.Places.{own_place, place_of}
 use Rattle.records.proofs.PlaceLaws.{own_found, own_missing}
-use Rattle.receiving.specs.declared.admission.Admission.{Admission}
-use Rattle.receiving.specs.declared.judge.Judged.{Judged}
-use Rattle.receiving.specs.declared.judge.Judged.TheVariants as judged
+use Rattle.receiving.specs.declared.judge.Asking as judge
 use Rattle.receiving.specs.declared.judge.Request as code
-use Rattle.receiving.specs.AtRecord.{later_at, admission_rule, admission_of}
+use Rattle.receiving.specs.AtRecord.{later_at, admission_rule}
 use Rattle.station.specs.Frames.{Ready, settled}
 use Rattle.receiving.specs.Judge.{Asking, request_of, judged_of, judge_rule}
 use Rattle.station.proofs.ComesLaws.{state_other}
@@ -88,7 +86,7 @@ unfolding splice joins
 comes_silent w s z out v t y i k r p q = comes_stored w s z out out v t y i k [] r p q refl
 
 -- a record stored at place i, and a message sent that can be written
-pub comes_sent : (w s z entry exit v t y : List ℕ) (i : ℕ) (k : Record) (m : Message) (a : Answer) (r : Answered) → Writable m (length entry) → station_of v t y ≡ with_records (station_of w s z) (set (records_of w s z) i k)
+pub comes_sent : (w s z entry exit v t y : List ℕ) (i : ℕ) (k : Record) (m : Message) (a : Result ends.Done Refusal) (r : Answered) → Writable m (length entry) → station_of v t y ≡ with_records (station_of w s z) (set (records_of w s z) i k)
     → sending.Sends m Nothing entry exit a → r ≡ said_of (answer_of a) → Stores i k (frame m ∷ []) w s z entry exit v t y r
 comes_sent w s z entry exit v t y i k m a r h p e q =
     let sent : sending.sending m Nothing (length entry) ≡ yes (record { frames = frame m ∷ []; indication = Nothing }) = sends_writable m entry h Nothing in
@@ -99,7 +97,7 @@ comes_sent w s z entry exit v t y i k m a r h p e q =
 -- ---- what a car's request comes to, by what is read of the words
 
 -- the place of the car's own record is none past the last, so that its own record is read there
-pub own_read : (w s z : List ℕ) (c : CarAddress) (p : Found) (i : ℕ) (d r : Record) → ((u h : List ℕ) → p ≡ own_from c 0 (records_of w u h)) → p ≡ Own i → r ≡ get_or (records_of w s z) (min i last_place) d → r ≡ get_or (records_of w s z) i d
+pub own_read : (w s z : List ℕ) (c : CarAddress) (p : Option ℕ) (i : ℕ) (d r : Record) → ((u h : List ℕ) → p ≡ own_place c (records_of w u h)) → p ≡ Some i → r ≡ get_or (records_of w s z) (min i last_place) d → r ≡ get_or (records_of w s z) i d
 own_read w s z c p i d r ep t e =
     let inside = (own_found c (records_of w s z) p i (ep s z) t).inside in
     let same : min i last_place ≡ i = omega (arith, inside, length_records w s z) in
@@ -123,22 +121,22 @@ module _ (w s z : List ℕ) (c : CarAddress) where
 
     module _ (a : ℕ) (t : st ≡ Matching a) (p : Found) (ep : (u h : List ℕ) → p ≡ place_of c (records_of w u h)) where
       -- PARM.REQ, by what is answered of the place
-      pub takes_parm : (run : RunId) (later : Bool) (x k : Admission) → later ≡ later_at (edition_in w) p → admission_of x ≡ admission_rule run p (ltb 0 a) → x ≡ k
-          → rule_of (for_record (parm_req run)) ≡ and_then (admission_of k) (λ (i : ℕ). settled (station_of w s z) i c (keeps (fresh later c run) (parm_cnf later run ∷ [])))
+      pub takes_parm : (run : RunId) (later : Bool) (x k : Result ℕ Refusal) → later ≡ later_at (edition_in w) p → checked_of x ≡ admission_rule run p (ltb 0 a) → x ≡ k
+          → rule_of (for_record (parm_req run)) ≡ and_then (checked_of k) (λ (i : ℕ). settled (station_of w s z) i c (keeps (fresh later c run) (parm_cnf later run ∷ [])))
       unfolding station_of
       takes_parm run later x k el ex ek =
           parm_answered (config_of w) (state_of w) (records_of w s z) c run a (sym es ∙ t) p (ep s z) x ex
-          ∙ ap₂ (λ (y : Admission) (b : Bool). and_then (admission_of y) (λ (i : ℕ). settled (station_of w s z) i c (keeps (fresh b c run) (parm_cnf b run ∷ [])))) ek (sym el)
+          ∙ ap₂ (λ (y : Result ℕ Refusal) (b : Bool). and_then (checked_of y) (λ (i : ℕ). settled (station_of w s z) i c (keeps (fresh b c run) (parm_cnf b run ∷ [])))) ek (sym el)
 
-    module _ (a : ℕ) (t : st ≡ Matching a) (p : Found) (ep : (u h : List ℕ) → p ≡ own_from c 0 (records_of w u h)) where
+    module _ (a : ℕ) (t : st ≡ Matching a) (p : Option ℕ) (ep : (u h : List ℕ) → p ≡ own_place c (records_of w u h)) where
       module _ (m : RecordMessage) (f : Record → Checked Kept) (at : AtOwn (edition_in w) c m (first_result (config_of w).exempt (records_of w s z)) f) where
         -- 11 where the car holds no record
-        pub takes_missing : OneOf (1 ∷ 2 ∷ []) (tag_of places.the_type p) → rule_of (for_record m) ≡ no 11
+        pub takes_missing : p ≡ None → rule_of (for_record m) ≡ no 11
         unfolding station_of
         takes_missing o = own_none (station_of w s z) c m f at a (sym es ∙ t) (own_missing c (records_of w s z) p (ep s z) o)
 
         -- a message at the car's own record
-        pub takes_own : (i : ℕ) (d r : Record) (x : Checked Kept) → p ≡ Own i → r ≡ get_or (records_of w s z) (min i last_place) d → x ≡ f r → settled (station_of w s z) i c x ≡ rule_of (for_record m)
+        pub takes_own : (i : ℕ) (d r : Record) (x : Checked Kept) → p ≡ Some i → r ≡ get_or (records_of w s z) (min i last_place) d → x ≡ f r → settled (station_of w s z) i c x ≡ rule_of (for_record m)
         unfolding station_of
         takes_own i d r x e er ex = own_settled (station_of w s z) c m f at i d x (a, sym es ∙ t) (own_found c (records_of w s z) p i (ep s z) e) (ex ∙ ap f (own_read w s z c p i d r ep e er))
 
@@ -150,35 +148,35 @@ pub ruled_lent : (w s z octets out exit v t y : List ℕ) (r : Answered) (x : Ch
 unfolding step outcome shared_step
 ruled_lent w s z octets out exit v t y r x e h = comes_as x (rule (shared (station_of w s z)) (inner (station_of w s z)) (calls.frame octets (length out))) w s z out exit v t y r (sym e) h
 
-module _ (w s z octets out : List ℕ) (o : Configuration) (j : Judged) (eo : o ≡ identity (config_of w))
+module _ (w s z octets out : List ℕ) (o : Configuration) (j : Result judge.Asking Refusal) (eo : o ≡ identity (config_of w))
     (ej : judged_of j (beside_of (read_rules o.edition octets)) ≡ judge_rule o (length out) octets) where
   -- what judging gives of the configuration of the words
-  judged_words : (k : Judged) → j ≡ k → judge_rule (config_of w) (length out) octets ≡ judged_of k (beside_of (read_rules (edition_in w) octets))
+  judged_words : (k : Result judge.Asking Refusal) → j ≡ k → judge_rule (config_of w) (length out) octets ≡ judged_of k (beside_of (read_rules (edition_in w) octets))
   judged_words k t =
       sym (judged_by_lem (config_of w) (length out) octets)
       ∙ sym (ap (λ (p : Configuration). judge_rule p (length out) octets) eo)
       ∙ sym ej
-      ∙ ap₂ (λ (x : Judged) (p : Configuration). judged_of x (beside_of (read_rules p.edition octets))) t eo
+      ∙ ap₂ (λ (x : Result judge.Asking Refusal) (p : Configuration). judged_of x (beside_of (read_rules p.edition octets))) t eo
 
   -- a refusal
-  pub frame_unread : (x : Refusal) → j ≡ judged.Refused x → judge_rule (config_of w) (length out) octets ≡ no (number_of x)
-  frame_unread x t = judged_words (judged.Refused x) t
+  pub frame_unread : (x : Refusal) → j ≡ Err x → judge_rule (config_of w) (length out) octets ≡ no (number_of x)
+  frame_unread x t = judged_words (Err x) t
 
-  module _ (c : CarAddress) (m : code.Request) (t : j ≡ judged.Taken c m) where
+  module _ (a : judge.Asking) (t : j ≡ Ok a) (m : code.Request) (em : a.request ≡ m) where
     -- the request
     abbrev asked : Asking
-    asked = record { car = c; request = request_of m (beside_of (read_rules (edition_in w) octets)) }
+    asked = record { car = a.car; request = request_of m (beside_of (read_rules (edition_in w) octets)) }
 
     decided_here : decided (station_of w s z).config (length out) octets ≡ yes asked
     unfolding station_of
-    decided_here = decided_taken (config_of w) (length out) octets asked (judged_words (judged.Taken c m) t)
+    decided_here = decided_taken (config_of w) (length out) octets asked (judged_words (Ok a) t ∙ ap (λ (q : code.Request). judged_of (Ok (record { car = a.car; request = q })) (beside_of (read_rules (edition_in w) octets))) em)
 
     -- the promise, from what its rule comes to
     pub frame_lent : (exit v u y : List ℕ) (r : Answered) → Comes (taken (station_of w s z) asked) w s z out exit v u y r → Lent (calls.frame octets (length out)) w s z out exit v u y r
     frame_lent exit v u y r h = ruled_lent w s z octets out exit v u y r _ (frame_decided (station_of w s z) octets (length out) (yes asked) decided_here) h
 
     -- a reply to its car can be sent
-    pub frame_ready : Ready (station_of w s z) c out
+    pub frame_ready : Ready (station_of w s z) a.car out
     frame_ready =
         let shown = judges (station_of w s z).config (length out) octets asked decided_here in
         record { good = shown.good; kept = meant w s z; car = shown.car; room = shown.room }

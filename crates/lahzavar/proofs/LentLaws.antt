@@ -12,7 +12,6 @@ use Rattle.messages.specs.declared.Nmk.{Nmk}
 use Rattle.messages.specs.declared.StationAddress.{StationAddress}
 use Rattle.octets.specs.Octets.{splice}
 use Rattle.messages.specs.Reading.{Checked, no, yes, check}
-use Rattle.rules.specs.declared.Configured.{Configured}
 use Rattle.rules.specs.declared.Pilot.{Pilot}
 use Rattle.rules.specs.declared.Station.{Station}
 use Rattle.rules.specs.declared.Stepped.{Stepped}
@@ -93,7 +92,7 @@ module _ (n reading : ℕ) (w s z : List ℕ) (r : Answered) where
 
 -- ---- configuring
 
-pub configured_lent : (a : StationAddress) (m : ModemAddress) (nid : Nid) (nmk : Nmk) (exempt : Bool) (e : Edition) (carriers : ℕ) (k : Configured) (v t y : List ℕ) (r : Answered)
+pub configured_lent : (a : StationAddress) (m : ModemAddress) (nid : Nid) (nmk : Nmk) (exempt : Bool) (e : Edition) (carriers : ℕ) (k : Stepped) (v t y : List ℕ) (r : Answered)
     → rules.Configures a m nid nmk exempt e carriers k → station_of v t y ≡ k.station → r ≡ said_of (answer_of k.answer) → Configures a m nid nmk exempt e carriers v t y r
 configured_lent a m nid nmk exempt e carriers k v t y r c p q = record { station = p ∙ c.station; answer = q ∙ ap said_of c.answer }
 

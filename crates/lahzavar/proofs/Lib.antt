@@ -8,4 +8,3 @@ pub mod MatchLaws
 pub mod MapLaws
 pub mod CountsFit
 pub mod CarLaws
-pub mod TellLaws

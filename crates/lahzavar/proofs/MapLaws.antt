@@ -12,7 +12,8 @@ use Rattle.messages.specs.declared.Refusal.{Refusal}
 use Rattle.messages.specs.declared.Refusal.TheVariants.{WrongState}
 use Rattle.messages.specs.Answers.{number_of}
 use Rattle.messages.specs.Reading.{no}
-use Rattle.ends.specs.declared.Answer.{Answer}
+use Rattle.std.specs.Prelude.{Result, Ok, Err}
+use Rattle.ends.specs.declared.Done as ends
 use Rattle.ends.specs.Answers.{answer_of}
 use Rattle.ends.specs.Sending.{Says}
 use Rattle.rules.specs.declared.Configuration.{Configuration}
@@ -21,8 +22,7 @@ use Rattle.rules.specs.declared.State.TheVariants.{Matched}
 use Rattle.rules.specs.Calls as calls
 use Rattle.rules.specs.Received.{map_req}
 use Rattle.rules.specs.contracts.State.{the_type}
-use Rattle.receiving.specs.declared.judge.MapJudged.{MapJudged}
-use Rattle.receiving.specs.declared.judge.MapJudged.TheVariants as map_judged
+use Rattle.receiving.specs.declared.judge.MapAsking as map_judge
 use Rattle.receiving.specs.Judge.{judge_rule, map_judged_of, map_judge_rule}
 use Rattle.receiving.specs.Maps.{map_answer}
 use Rattle.station.specs.Frames.{Ready}
@@ -43,7 +43,7 @@ module _ (w s z : List ℕ) (c : CarAddress) (n : ℕ) (st : State) (es : st ≡
   map_refused out t q = comes_refused _ WrongState w s z out r (map_elsewhere (station_of w s z) c n (subst (λ (x : State). OneOf (0 ∷ 1 ∷ 2 ∷ []) (tag_of the_type x)) es t)) q
 
   -- in Matched the answer is the rule's, and no word changes
-  pub map_answered : (entry exit : List ℕ) (a : Answer) (d : CarAddress) (o : Configuration) → st ≡ Matched d → o ≡ config_of w → Says (map_answer o d c n (length entry)) entry exit a → r ≡ said_of (answer_of a) → Ready (station_of w s z) c entry
+  pub map_answered : (entry exit : List ℕ) (a : Result ends.Done Refusal) (d : CarAddress) (o : Configuration) → st ≡ Matched d → o ≡ config_of w → Says (map_answer o d c n (length entry)) entry exit a → r ≡ said_of (answer_of a) → Ready (station_of w s z) c entry
       → Takes c (map_req n) w s z entry exit w s z r
   unfolding station_of
   map_answered entry exit a d o t eo h q ready =
@@ -63,16 +63,16 @@ module _ (w s z octets out : List ℕ) (x : Refusal) (e : judge_rule (config_of 
   unread_lent h q = ruled_lent w s z octets out out w s z r _ (unread_refused (station_of w s z) octets out (number_of x) judged_here h) (comes_refused _ x w s z out r refl q)
 
   -- at 3 it is judged as a message of amplitude maps
-  module _ (h : eqb (number_of x) 3 ≡ true) (o : Configuration) (eo : o ≡ identity (config_of w)) (j : MapJudged) (ej : map_judged_of j ≡ map_judge_rule o octets) where
-    map_here : (k : MapJudged) → j ≡ k → map_judged_of k ≡ map_judge_rule (station_of w s z).config octets
+  module _ (h : eqb (number_of x) 3 ≡ true) (o : Configuration) (eo : o ≡ identity (config_of w)) (j : Result map_judge.MapAsking Refusal) (ej : map_judged_of j ≡ map_judge_rule o octets) where
+    map_here : (k : Result map_judge.MapAsking Refusal) → j ≡ k → map_judged_of k ≡ map_judge_rule (station_of w s z).config octets
     unfolding station_of
     map_here k t = sym (ap map_judged_of t) ∙ ej ∙ ap (λ (p : Configuration). map_judge_rule p octets) eo ∙ map_judged_by (config_of w) octets
 
     -- and refused, or answered
-    pub map_refused_lent : (y : Refusal) → j ≡ map_judged.Refused y → r ≡ said_of (no (number_of y)) → Lent (calls.frame octets (length out)) w s z out out w s z r
+    pub map_refused_lent : (y : Refusal) → j ≡ Err y → r ≡ said_of (no (number_of y)) → Lent (calls.frame octets (length out)) w s z out out w s z r
     map_refused_lent y t q = ruled_lent w s z octets out out w s z r _ (unread_map (station_of w s z) octets out (number_of x) judged_here h _ (map_here _ t)) (comes_refused _ y w s z out r refl q)
 
-    pub map_asked_lent : (c : CarAddress) (n : ℕ) (exit : List ℕ) → j ≡ map_judged.Asked c n → (Ready (station_of w s z) c out → Takes c (map_req n) w s z out exit w s z r) → Lent (calls.frame octets (length out)) w s z out exit w s z r
-    map_asked_lent c n exit t f =
+    pub map_asked_lent : (a : map_judge.MapAsking) (exit : List ℕ) → j ≡ Ok a → (Ready (station_of w s z) a.car out → Takes a.car (map_req a.carriers) w s z out exit w s z r) → Lent (calls.frame octets (length out)) w s z out exit w s z r
+    map_asked_lent a exit t f =
         ruled_lent w s z octets out exit w s z r _ (unread_map (station_of w s z) octets out (number_of x) judged_here h _ (map_here _ t))
         (f (unread_ready (station_of w s z) octets out (number_of x) judged_here h _ (map_here _ t) (meant w s z) _ refl))

@@ -13,7 +13,9 @@ use Rattle.messages.specs.Reading.{Checked, no, yes}
 use Rattle.messages.specs.Table.{Message}
 use Rattle.messages.specs.Writing.{frame}
 use Rattle.octets.specs.Octets.{splice}
-use Rattle.ends.specs.declared.Answer.{Answer}
+use Rattle.std.specs.Prelude.{Result, Option, Some, None}
+use Rattle.ends.specs.declared.Done as ends
+use Rattle.messages.specs.declared.Refusal.{Refusal}
 use Rattle.ends.specs.declared.Indication.TheVariants.{Nothing}
 use Rattle.ends.specs.Answers.{answer_of, summary}
 use Rattle.ends.specs.Outcomes.{Outcome, frames_of, joined}
@@ -32,10 +34,7 @@ use Rattle.rules.specs.Records.{freed}
 use Rattle.rules.specs.Replies.{message_to, frames_to}
 use Rattle.rules.specs.Stations.{Done, shared, build, done}
 use Rattle.rules.specs.contracts.State.{the_type}
-use Rattle.records.specs.declared.find.Found.{Found}
-use Rattle.records.specs.declared.find.Found.TheVariants.{Own}
-use Rattle.records.specs.Places.{own_from}
-use Rattle.records.specs.contracts.find.Found as places
+use Rattle.records.specs.Places.{own_place}
 use Rattle.records.proofs.PlaceLaws.{own_found, own_missing}
 use Rattle.station.specs.Frames.{Ready, join_rule}
 use Rattle.station.proofs.MatchLaws.{joins, join_none, join_own, match_matching, match_again, match_other, match_elsewhere}
@@ -51,7 +50,7 @@ use Rattle.lahzavar.proofs.FrameLaws.{own_read}
 -- ---- MATCH.CNF
 
 -- a message sent that can be written
-pub replied : (m k : Message) (entry exit : List ℕ) (a : Answer) (r : Answered) → m ≡ k → Writable k (length entry) → Sends m Nothing entry exit a → r ≡ said_of (answer_of a) → Replies (frame k ∷ []) entry exit r
+pub replied : (m k : Message) (entry exit : List ℕ) (a : Result ends.Done Refusal) (r : Answered) → m ≡ k → Writable k (length entry) → Sends m Nothing entry exit a → r ≡ said_of (answer_of a) → Replies (frame k ∷ []) entry exit r
 replied m k entry exit a r e h sends q =
     let sent : sending m Nothing (length entry) ≡ yes (record { frames = frame k ∷ []; indication = Nothing }) = ap (λ (x : Message). sending x Nothing (length entry)) e ∙ sends_writable k entry h Nothing in
     (q ∙ ap said_of (sends.answer ∙ ap summary sent), sends.octets ∙ ap (λ (u : Outcome). splice 0 (joined (frames_of u)) entry) sent)
@@ -115,14 +114,14 @@ module _ (w s z entry exit v : List ℕ) (r : Answered) where
 -- ---- by what is read of the words
 
 module _ (w s z : List ℕ) (c : CarAddress) (run : RunId) (a b : List ℕ) where
-  module _ (p : Found) (ep : (u h : List ℕ) → p ≡ own_from c 0 (records_of w u h)) where
+  module _ (p : Option ℕ) (ep : (u h : List ℕ) → p ≡ own_place c (records_of w u h)) where
     -- 11 where the car holds no record
-    pub join_missing : OneOf (1 ∷ 2 ∷ []) (tag_of places.the_type p) → join_rule (station_of w s z) c run a b ≡ no 11
+    pub join_missing : p ≡ None → join_rule (station_of w s z) c run a b ≡ no 11
     unfolding station_of
     join_missing o = join_none (station_of w s z) c run a b (own_missing c (records_of w s z) p (ep s z) o)
 
     -- at the car's record, by its verdict
-    pub join_verdict : (i : ℕ) (d r : Record) (x : Checked (Unit {0})) → p ≡ Own i → r ≡ get_or (records_of w s z) (min i last_place) d → x ≡ match_rule run (r ∷ []) → join_rule (station_of w s z) c run a b ≡ joins (station_of w s z) c run a b x
+    pub join_verdict : (i : ℕ) (d r : Record) (x : Checked (Unit {0})) → p ≡ Some i → r ≡ get_or (records_of w s z) (min i last_place) d → x ≡ match_rule run (r ∷ []) → join_rule (station_of w s z) c run a b ≡ joins (station_of w s z) c run a b x
     unfolding station_of
     join_verdict i d r x e er ex = join_own (station_of w s z) c run a b i d x (own_found c (records_of w s z) p i (ep s z) e) (ex ∙ ap (λ (k : Record). match_rule run (k ∷ [])) (own_read w s z c p i d r ep e er))
 

@@ -3,7 +3,6 @@ use Rattle.std.specs.Prelude.{ℕ, ◌+◌, ◌*◌, ◌^◌, ◌%◌, ◌≡◌
 use Rattle.messages.specs.Reading.{Checked, no, yes}
 use Rattle.ends.specs.Outcomes.{Outcome}
 use Rattle.rules.specs.Rules as rules
-use Rattle.rules.specs.Answers.{sounds_in}
 use Rattle.ends.specs.Answers.{indication_number, Summary, summary}
 use Rattle.lahzavar.specs.declared.Answered.{Answered}
 use Rattle.lahzavar.specs.declared.Heard.{Heard}
@@ -23,9 +22,9 @@ abbrev pub answered : Outcome → Answered
 answered o = said_of (summary o)
 
 -- the answer of the service query
-abbrev pub heard_as : Checked ℕ → Heard
+abbrev pub heard_as : Checked rules.Told → Heard
 heard_as (no n) = record { refusal = n; sounds = 0 }
-heard_as (yes n) = record { refusal = 0; sounds = n }
+heard_as (yes t) = record { refusal = 0; sounds = t.sounds }
 
 -- the answer of the inspection
 abbrev pub inspected_as : Checked rules.Inspected → Inspected
@@ -39,6 +38,6 @@ filled_by f (yes t) entry = f t
 
 -- the whole promise of the query, with the two lent arrays from entry to exit
 pub record Tells (x : Checked rules.Told) (l g l' g' : List ℕ) (r : Heard) : Type 0 where
-  pub answer : r ≡ heard_as (sounds_in x)
+  pub answer : r ≡ heard_as x
   pub least : l' ≡ filled_by (λ (t : rules.Told). t.spread.least) x l
   pub greatest : g' ≡ filled_by (λ (t : rules.Told). t.spread.greatest) x g

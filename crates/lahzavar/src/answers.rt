@@ -1,33 +1,18 @@
 // Answers as plain numbers.
 ghost use Rattle.std.specs.Prelude.{◌≡◌, ◌^◌, ◌%◌};
 ghost use Rattle.messages.specs.Answers.{number_of};
-ghost use Rattle.messages.specs.Reading.{Checked, no, check};
-ghost use Rattle.ends.specs.Answers.{answer_of};
-ghost use Rattle.rules.specs.Rules.{Told};
-ghost use Rattle.rules.specs.Answers as by_value;
+ghost use Rattle.messages.specs.Reading.{no, check};
+ghost use Rattle.ends.specs.Answers.{answer_of, silently};
+ghost use Rattle.rules.specs.Answers.{heard_of, inspected_of};
 ghost use Rattle.lahzavar.specs.Answers as answers;
 ghost use Rattle.lahzavar.specs.Answers.{said_of};
 
 use crate::{Answered, Heard, Inspected};
-use ends::Answer;
-use messages::{GROUPS, GroupValues, Refusal};
-use rules::{Configuration, HeardAnswer, Inspection, Queried};
+use ends::{Answer, Indication};
+use messages::{GroupValues, Refusal};
+use rules::Configuration;
 
-// A wider number.
-pub(crate) fn wide(x: u32) -> u64
-    ensures { result ≡ x }
-{
-    x as u64
-}
-
-// A wider count.
-fn count(x: u8) -> u32
-    ensures { result ≡ x }
-{
-    x as u32
-}
-
-// The low 32 binary digits.
+// The low 32 binary digits, of a `usize`, which has no `From` into the `u64` of `ends::fields::low`.
 pub(crate) fn low(x: usize) -> u32
     ensures { result ≡ x % 2 ^ 32 }
 {
@@ -38,9 +23,8 @@ pub(crate) fn low(x: usize) -> u32
 pub(crate) fn refused(refusal: Refusal) -> Answered
     ensures { result ≡ said_of (no (number_of refusal)) }
 {
-    let n = messages::refusal_number(refusal);
     Answered {
-        refusal: n,
+        refusal: u32::from(refusal),
         indication: 0,
         frames: 0,
         octets: 0,
@@ -52,18 +36,21 @@ pub(crate) fn answered(answer: Answer) -> Answered
     ensures { result ≡ said_of (answer_of answer) }
 {
     match answer {
-        Answer::Refused(refusal) => refused(refusal),
-        Answer::Done {
-            frames,
-            octets,
-            indication: told,
-        } => Answered {
+        Err(refusal) => refused(refusal),
+        Ok(done) => Answered {
             refusal: 0,
-            indication: ends::indication_number(told),
-            frames: count(frames),
-            octets: low(octets),
+            indication: u32::from(done.indication),
+            frames: u32::from(done.frames),
+            octets: low(done.octets),
         },
     }
+}
+
+// The answer of an accepted call with no frame.
+pub(crate) fn silent(indication: Indication) -> Answered
+    ensures { result ≡ said_of (answer_of (silently indication)) }
+{
+    answered(ends::silent(indication))
 }
 
 // The refusal of a number that names no pilot state: 16, then 8.
@@ -78,49 +65,42 @@ pub(crate) fn no_pilot(config: Configuration) -> Answered
 }
 
 // What the inspection answered.
-pub(crate) fn inspected(inspection: Inspection) -> Inspected
-    ensures { result ≡ answers.inspected_as (by_value.inspected_of inspection) }
+pub(crate) fn inspected(inspection: Result<rules::Inspected, Refusal>) -> Inspected
+    ensures { result ≡ answers.inspected_as (inspected_of inspection) }
 {
     match inspection {
-        Inspection::Refused(refusal) => Inspected {
-            refusal: messages::refusal_number(refusal),
+        Err(refusal) => Inspected {
+            refusal: u32::from(refusal),
             state: 0,
             car: 0,
         },
-        Inspection::At { state, car } => Inspected {
+        Ok(at) => Inspected {
             refusal: 0,
-            state: state,
-            car: car.0,
+            state: at.state,
+            car: at.car.0,
         },
     }
 }
 
-// A run of values stored in a lent array.
-fn fill(values: GroupValues, out: &mut GroupValues)
-    ensures { out.new ≡ values }
-{
-    octets::copy(&values, 0, GROUPS, out, 0);
-}
-
 // The service query's answer, with the spread in two lent arrays; a refusal leaves them.
-pub(crate) fn told(queried: Queried, least: &mut GroupValues, greatest: &mut GroupValues) -> Heard
-    ensures { (x : Checked Told) → by_value.Tells x queried → answers.Tells x least.old greatest.old least.new greatest.new result }
+pub(crate) fn told(
+    queried: Result<rules::Heard, Refusal>,
+    least: &mut GroupValues,
+    greatest: &mut GroupValues,
+) -> Heard
+    ensures { answers.Tells (heard_of queried) least.old greatest.old least.new greatest.new result }
 {
-    let spread = queried.spread;
-    let answer = queried.heard;
-    let low = spread.least;
-    let high = spread.greatest;
-    match answer {
-        HeardAnswer::Refused(refusal) => Heard {
-            refusal: messages::refusal_number(refusal),
+    match queried {
+        Err(refusal) => Heard {
+            refusal: u32::from(refusal),
             sounds: 0,
         },
-        HeardAnswer::Heard(sounds) => {
-            fill(low, least);
-            fill(high, greatest);
+        Ok(heard) => {
+            least.copy_from_slice(&heard.spread.least);
+            greatest.copy_from_slice(&heard.spread.greatest);
             Heard {
                 refusal: 0,
-                sounds: sounds,
+                sounds: heard.sounds,
             }
         }
     }

@@ -1,6 +1,6 @@
-// A car for C and Rust to link: lent as words, answered in plain numbers.
+// A car for C and Rust to link: lent as words, answered in plain numbers. Each call is a function of its own name: the C interface.
 ghost use Rattle.std.specs.Prelude.{◌≡◌, [], length};
-ghost use Rattle.car_rules.specs.Answers.{key_of};
+ghost use Rattle.messages.specs.Answers.{checked_of};
 ghost use Rattle.car_rules.specs.Calls as calls;
 ghost use Rattle.car_rules.specs.Constants.{least_output};
 ghost use Rattle.car_rules.specs.Invariant.{Invariant};
@@ -11,9 +11,9 @@ ghost use Rattle.car_words.specs.Written.{state_number};
 ghost use Rattle.lahzavar.specs.Car.{Lent, Configures, Settles, key_as};
 
 use crate::{Answered, answers};
-use car_rules::{KeyAnswer, Stepped};
+use car_rules::{Key, Stepped};
 use car_words::CarWords;
-use messages::{CarAddress, Random, RunId};
+use messages::{CarAddress, Random, Refusal, RunId};
 
 // The key query's answer: the refusal's number or 0, the station's address, its NID, and the first and last eight octets of its NMK.
 #[repr(C)]
@@ -31,13 +31,12 @@ fn settle(words: &mut CarWords, stepped: Stepped) -> Answered
     requires { Invariant stepped.car }
     ensures { Settles stepped words.old words.new result }
 {
-    let answer = stepped.answer;
-    let car = stepped.car;
-    let said = answers::answered(answer);
+    let said = answers::answered(stepped.answer);
+    // By the number that C is told: `Settles` says by it what is stored.
     if said.refusal != 0 {
         return said;
     }
-    car_words::pack(car, words);
+    car_words::pack(stepped.car, words);
     said
 }
 
@@ -51,10 +50,8 @@ pub extern "C" fn lahzavar_configure_car(
     ensures { Configures (record { 0 = address }) reference words.new result }
 {
     let made = car_rules::configure(CarAddress(address), reference);
-    let car = made.car;
-    let answer = made.answer;
-    car_words::pack(car, words);
-    answers::answered(answer)
+    car_words::pack(made.car, words);
+    answers::answered(made.answer)
 }
 
 // A matching starts, with a run and a random value, at a clock reading: PARM.REQ stands from the output's first octet.
@@ -120,29 +117,24 @@ pub extern "C" fn lahzavar_terminate_car(words: &mut CarWords) -> Answered
 }
 
 // An answer of the key query as plain numbers.
-fn key_answered(answer: KeyAnswer) -> KeyAnswered
-    ensures { result ≡ key_as (key_of answer) }
+fn key_answered(answer: Result<Key, Refusal>) -> KeyAnswered
+    ensures { result ≡ key_as (checked_of answer) }
 {
     match answer {
-        KeyAnswer::Refused(refusal) => KeyAnswered {
-            refusal: messages::refusal_number(refusal),
+        Err(refusal) => KeyAnswered {
+            refusal: u32::from(refusal),
             station: 0,
             nid: 0,
             first: 0,
             last: 0,
         },
-        KeyAnswer::Given(key) => {
-            let station = key.station;
-            let nid = key.nid;
-            let nmk = key.nmk;
-            KeyAnswered {
-                refusal: 0,
-                station: station.0,
-                nid: nid.0,
-                first: nmk.0,
-                last: nmk.1,
-            }
-        }
+        Ok(key) => KeyAnswered {
+            refusal: 0,
+            station: key.station.0,
+            nid: key.nid.0,
+            first: key.nmk.0,
+            last: key.nmk.1,
+        },
     }
 }
 

@@ -7,7 +7,7 @@ ghost use Rattle.lahzavar.specs.Events.{InWords, Frees};
 ghost use Rattle.lahzavar.specs.Lent.{Lent};
 
 use crate::{Answered, answers, storing};
-use ends::{Answer, Indication};
+use ends::Indication;
 use messages::Refusal;
 use rules::{ADMISSION_TIME, Pilot, State};
 use station::events;
@@ -25,11 +25,7 @@ fn free(
 {
     words::free_all(words);
     words::put_state(words, state, pilot, clock);
-    answers::answered(Answer::Done {
-        frames: 0,
-        octets: 0,
-        indication: indication,
-    })
+    answers::silent(indication)
 }
 
 // Unmatched, with the records free.
@@ -44,8 +40,7 @@ fn end(words: &mut StationWords, pilot: Pilot, clock: u32) -> Answered
 pub(crate) fn terminate(words: &mut StationWords) -> Answered
     ensures { InWords calls.terminate words.old words.new result }
 {
-    let config = words::config_of(words);
-    if !config.good {
+    if !words::config_of(words).good {
         return answers::refused(Refusal::BadConfiguration);
     }
     let pilot = words::pilot_of(words);
@@ -57,27 +52,16 @@ pub(crate) fn terminate(words: &mut StationWords) -> Answered
 pub(crate) fn link_up(words: &mut StationWords) -> Answered
     ensures { InWords calls.link_up words.old words.new result }
 {
-    let config = words::config_of(words);
-    if !config.good {
+    if !words::config_of(words).good {
         return answers::refused(Refusal::BadConfiguration);
     }
-    let state = words::state_of(words);
-    let State::Joining {
-        left: _,
-        car,
-        run: _,
-    } = state
-    else {
+    let State::Joining { car, .. } = words::state_of(words) else {
         return answers::refused(Refusal::WrongState);
     };
     let pilot = words::pilot_of(words);
     let clock = words::clock_of(words);
     words::put_state(words, State::Matched(car), pilot, clock);
-    answers::answered(Answer::Done {
-        frames: 0,
-        octets: 0,
-        indication: Indication::LinkEstablished,
-    })
+    answers::silent(Indication::LinkEstablished)
 }
 
 // A pilot change on the whole station, by value.
@@ -105,8 +89,7 @@ pub(crate) fn pilot(
 ) -> Answered
     ensures { Lent (calls.pilot pilot reading) words.old sums.old spread.old [] [] words.new sums.new spread.new result }
 {
-    let config = words::config_of(words);
-    if !config.good {
+    if !words::config_of(words).good {
         return answers::refused(Refusal::BadConfiguration);
     }
     if !events::plugged(pilot) {

@@ -1,4 +1,7 @@
 // A frame, at one record in place.
+// Words, sums and spread are three parameters: C lends them so, and a struct of three borrows would be made in each exported function, taken
+// apart in each call of `words`, and named through in each contract, which is no plainer. `Ready` stands in each contract: it is a fact of
+// a station, a car and an output together. A message goes with its edition, values and identifiers, as `messages::write` takes them.
 ghost use Rattle.std.specs.Prelude.{◌<◌, [], ◌∷◌, length};
 ghost use Rattle.messages.specs.Answers.{message_of, besides};
 ghost use Rattle.messages.specs.Reading.{beside_of, read_rules};
@@ -10,7 +13,7 @@ ghost use Rattle.rules.specs.Invariant.{TryFits, GoodRecord};
 ghost use Rattle.rules.specs.Received.{for_record, parm_req};
 ghost use Rattle.rules.specs.Records.{owned, fresh};
 ghost use Rattle.rules.specs.Replies.{parm_cnf, report_of};
-ghost use Rattle.records.specs.Requests.{effect_of};
+ghost use Rattle.records.specs.Requests.{kept_of};
 ghost use Rattle.ends.specs.Sending.{Writable};
 ghost use Rattle.station.specs.Frames.{Ready, KeepsGood};
 ghost use Rattle.receiving.specs.Judge.{own_message_of};
@@ -19,13 +22,11 @@ ghost use Rattle.lahzavar.specs.Frames.{Takes, Puts, Stores};
 ghost use Rattle.lahzavar.specs.Lent.{Lent};
 
 use crate::{Answered, answers, maps, matching, validating};
-use ends::{Answer, Indication};
+use ends::Indication;
 use messages::{CarAddress, Edition, GroupValues, Ids, Message, Refusal, RunId};
-use receiving::admission::Admission;
-use receiving::judge::{Judged, OwnMessage, Request};
+use receiving::judge::{OwnMessage, Request};
 use receiving::{admission, judge, own_record, reply};
-use records::find::Found;
-use records::requests::{Effect, Kept};
+use records::changes::Kept;
 use records::{changes, report};
 use rules::{Record, State};
 use words::{StationSpread, StationSums, StationWords};
@@ -88,17 +89,14 @@ fn parm_req(
     requires { Ready (station_of words.old sums.old spread.old) car out.old }
     ensures { Takes car (for_record (parm_req run)) words.old sums.old spread.old out.old out.new words.new sums.new spread.new result }
 {
-    let state = words::state_of(words);
-    let State::Matching(left) = state else {
+    let State::Matching(left) = words::state_of(words) else {
         return answers::refused(Refusal::WrongState);
     };
-    let edition = words::edition_of(words);
     let found = words::find(words, car);
-    let later = admission::is_later(edition, found);
-    let admission = admission::place_for(run, found, left);
-    match admission {
-        Admission::At(i) => admit(words, sums, spread, i, car, later, run, out),
-        Admission::Refused(refusal) => answers::refused(refusal),
+    let later = admission::is_later(words::edition_of(words), found);
+    match admission::place_for(run, found, left) {
+        Ok(i) => admit(words, sums, spread, i, car, later, run, out),
+        Err(refusal) => answers::refused(refusal),
     }
 }
 
@@ -133,25 +131,22 @@ fn settle(
     spread: &mut StationSpread,
     i: usize,
     car: CarAddress,
-    kept: Kept,
+    kept: Result<Kept, Refusal>,
     out: &mut [u8],
 ) -> Answered
-    requires { Ready (station_of words.old sums.old spread.old) car out.old × KeepsGood (edition_in words.old) car (effect_of kept.kept kept.effect) }
-    ensures { Puts i car (effect_of kept.kept kept.effect) words.old sums.old spread.old out.old out.new words.new sums.new spread.new result }
+    requires { Ready (station_of words.old sums.old spread.old) car out.old × KeepsGood (edition_in words.old) car (kept_of kept) }
+    ensures { Puts i car (kept_of kept) words.old sums.old spread.old out.old out.new words.new sums.new spread.new result }
 {
-    let left = kept.kept;
-    let effect = kept.effect;
-    match effect {
-        Effect::Refused(refusal) => answers::refused(refusal),
-        Effect::NoReply => {
-            words::put_record(words, sums, spread, i, changes::owned(car, left));
-            answers::answered(Answer::Done {
-                frames: 0,
-                octets: 0,
-                indication: Indication::Nothing,
-            })
+    match kept {
+        Err(refusal) => answers::refused(refusal),
+        Ok(left) => {
+            if left.reports {
+                report(words, sums, spread, i, car, left.kept, out)
+            } else {
+                words::put_record(words, sums, spread, i, changes::owned(car, left.kept));
+                answers::silent(Indication::Nothing)
+            }
         }
-        Effect::Report => report(words, sums, spread, i, car, left, out),
     }
 }
 
@@ -168,12 +163,10 @@ fn at_own(
     requires { Ready (station_of words.old sums.old spread.old) car out.old × OctetRequest (edition_in words.old) (for_record (own_message_of message (beside_of (read_rules (edition_in words.old) octets.now)))) }
     ensures { Takes car (for_record (own_message_of message (beside_of (read_rules (edition_in words.old) octets.now)))) words.old sums.old spread.old out.old out.new words.new sums.new spread.new result }
 {
-    let state = words::state_of(words);
-    let State::Matching(_) = state else {
+    let State::Matching(_) = words::state_of(words) else {
         return answers::refused(Refusal::WrongState);
     };
-    let found = words::own_place(words, car);
-    let Found::Own(i) = found else {
+    let Some(i) = words::own_place(words, car) else {
         return answers::refused(Refusal::NoRecord);
     };
     let edition = words::edition_of(words);
@@ -193,16 +186,15 @@ pub(crate) fn receive(
     ensures { Lent (calls.frame octets.now (length out.old)) words.old sums.old spread.old out.old out.new words.new sums.new spread.new result }
 {
     let us = words::identity_of(words);
-    let judged = judge::judge(us, octets, out.len());
-    match judged {
-        Judged::Refused(refusal) => maps::unread(words, refusal, octets, out),
-        Judged::Taken { car, request } => match request {
-            Request::Parm(run) => parm_req(words, sums, spread, car, run, out),
-            Request::Own(message) => at_own(words, sums, spread, car, message, octets, out),
-            Request::Match(run) => {
-                matching::match_req(words, sums, spread, car, run, octets, out)
-            }
-            Request::ValidateFirst => { validating::validate_first(words, sums, spread, car, out) }
-        },
+    let asking = match judge::judge(us, octets, out.len()) {
+        Err(refusal) => return maps::unread(words, refusal, octets, out),
+        Ok(asking) => asking,
+    };
+    let car = asking.car;
+    match asking.request {
+        Request::Parm(run) => parm_req(words, sums, spread, car, run, out),
+        Request::Own(message) => at_own(words, sums, spread, car, message, octets, out),
+        Request::Match(run) => matching::match_req(words, sums, spread, car, run, octets, out),
+        Request::ValidateFirst => validating::validate_first(words, sums, spread, car, out),
     }
 }

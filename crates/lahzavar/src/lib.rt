@@ -23,6 +23,7 @@ ghost use Rattle.lahzavar.specs.Answers.{version, Tells, inspected_as};
 ghost use Rattle.lahzavar.specs.Lent.{Lent, PilotLent, own_address, Configures};
 
 use messages::{CarAddress, GroupValues, ModemAddress, Nid, Nmk, StationAddress};
+use rules::Pilot;
 use words::{SPREAD, SUMS, StationSpread, StationSums, StationWords, WORDS};
 
 // The version 0.8.0: 65536 times the major number, 256 times the minor, and the patch.
@@ -88,7 +89,7 @@ pub extern "C" fn lahzavar_configure(
         Nid(nid),
         Nmk(first, last),
         exempt != 0,
-        rules::edition_of(answers::wide(edition)),
+        rules::edition_of(u64::from(edition)),
         carriers,
     )
 }
@@ -121,7 +122,7 @@ pub extern "C" fn lahzavar_tick(
     ticks::tick(words, sums, spread, reading, out)
 }
 
-// The control pilot is at a state, 0 to 5 for A to F, at a clock reading.
+// The control pilot is at a state, 0 to 5 for A to F, at a clock reading. No `TryFrom`: words need the total `From`, and C is told 8 here.
 #[unsafe(no_mangle)]
 pub extern "C" fn lahzavar_pilot(
     words: &mut StationWords,
@@ -135,7 +136,7 @@ pub extern "C" fn lahzavar_pilot(
     if 5 < pilot {
         return answers::no_pilot(words::config_of(words));
     }
-    let at = rules::pilot_of(answers::wide(pilot));
+    let at = Pilot::from(u64::from(pilot));
     events::pilot(words, sums, spread, at, reading)
 }
 

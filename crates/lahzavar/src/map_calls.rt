@@ -1,16 +1,16 @@
 // Amplitude maps for C and Rust to link: their two messages, and the reductions that a map asks for.
 ghost use Rattle.std.specs.Prelude.{◌≡◌, not, eqb, length};
-ghost use Rattle.messages.specs.Answers.{written_of};
+ghost use Rattle.messages.specs.Answers.{checked_of};
 ghost use Rattle.amplitude.specs.Maps.{amp_map_req, amp_map_cnf};
 ghost use Rattle.amplitude.specs.Reading.{read_rules, summary_of, values_rules};
 ghost use Rattle.amplitude.specs.Writing.{write_rules};
 ghost use Rattle.amplitude.specs.Reductions.{reduce_rules};
-ghost use Rattle.amplitude.specs.Answers.{result_of, answer_of, filled_of};
+ghost use Rattle.amplitude.specs.Answers.{result_of, answer_of};
 ghost use Rattle.lahzavar.specs.Maps.{map_read_as, counted_as, Fills};
 
 use crate::answers;
-use amplitude::{Filled, ReadAnswer, Receiver, Sender};
-use messages::Written;
+use amplitude::{MapMessage, Sender};
+use messages::{Receiver, Refusal};
 
 // CM_AMP_MAP.REQ's type.
 const REQUEST: u32 = 0x601C;
@@ -38,23 +38,18 @@ pub struct Counted {
     pub count: u32,
 }
 
-// The octet of a result.
-fn result(success: bool) -> u32
-    ensures { result ≡ result_of success }
-{
-    if success { 0 } else { 1 }
-}
-
 // What reading answered, as plain numbers.
-fn map_read(answer: ReadAnswer) -> MapRead
+fn map_read(answer: Result<MapMessage, Refusal>) -> MapRead
     ensures { result ≡ map_read_as (answer_of answer) }
 {
     match answer {
-        ReadAnswer::AmpMapReq {
-            receiver,
-            sender,
-            carriers,
-        } => MapRead {
+        Ok(
+            MapMessage::AmpMapReq {
+                receiver,
+                sender,
+                carriers,
+            },
+        ) => MapRead {
             refusal: 0,
             kind: REQUEST,
             receiver: receiver.0,
@@ -62,20 +57,22 @@ fn map_read(answer: ReadAnswer) -> MapRead
             carriers: answers::low(carriers),
             result: 0,
         },
-        ReadAnswer::AmpMapCnf {
-            receiver,
-            sender,
-            success,
-        } => MapRead {
+        Ok(
+            MapMessage::AmpMapCnf {
+                receiver,
+                sender,
+                success,
+            },
+        ) => MapRead {
             refusal: 0,
             kind: CONFIRMATION,
             receiver: receiver.0,
             sender: sender.0,
             carriers: 0,
-            result: result(success),
+            result: u32::from(!success),
         },
-        ReadAnswer::Refused(refusal) => MapRead {
-            refusal: messages::refusal_number(refusal),
+        Err(refusal) => MapRead {
+            refusal: u32::from(refusal),
             kind: 0,
             receiver: 0,
             sender: 0,
@@ -85,33 +82,17 @@ fn map_read(answer: ReadAnswer) -> MapRead
     }
 }
 
-// How many places were filled, as plain numbers.
-fn filled_count(filled: Filled) -> Counted
-    ensures { result ≡ counted_as (filled_of filled) }
-{
-    match filled {
-        Filled::Carriers(n) => Counted {
-            refusal: 0,
-            count: answers::low(n),
-        },
-        Filled::Refused(refusal) => Counted {
-            refusal: messages::refusal_number(refusal),
-            count: 0,
-        },
-    }
-}
-
-// How many octets were written, as plain numbers.
-fn octet_count(answer: Written) -> Counted
-    ensures { result ≡ counted_as (written_of answer) }
+// How many places were filled, or octets written, as plain numbers.
+fn count(answer: Result<usize, Refusal>) -> Counted
+    ensures { result ≡ counted_as (checked_of answer) }
 {
     match answer {
-        Written::Octets(n) => Counted {
+        Ok(n) => Counted {
             refusal: 0,
             count: answers::low(n),
         },
-        Written::Refused(refusal) => Counted {
-            refusal: messages::refusal_number(refusal),
+        Err(refusal) => Counted {
+            refusal: u32::from(refusal),
             count: 0,
         },
     }
@@ -130,7 +111,7 @@ pub extern "C" fn lahzavar_read_map(octets: &[u8]) -> MapRead
 pub extern "C" fn lahzavar_values_of_map(octets: &[u8], values: &mut [u8]) -> Counted
     ensures { Fills (values_rules octets.now (length values.old)) values.old values.new result }
 {
-    filled_count(amplitude::values(octets, values))
+    count(amplitude::values(octets, values))
 }
 
 // Writes CM_AMP_MAP.REQ with a value for each carrier; a refusal changes nothing.
@@ -143,7 +124,7 @@ pub extern "C" fn lahzavar_request_map(
 ) -> Counted
     ensures { Fills (write_rules (amp_map_req receiver sender values.now) (length out.old)) out.old out.new result }
 {
-    octet_count(amplitude::write_req(Receiver(receiver), Sender(sender), values, out))
+    count(amplitude::write_req(Receiver(receiver), Sender(sender), values, out))
 }
 
 // Writes CM_AMP_MAP.CNF, for success where the number is not 0; a refusal changes nothing.
@@ -156,7 +137,7 @@ pub extern "C" fn lahzavar_confirm_map(
 ) -> Counted
     ensures { Fills (write_rules (amp_map_cnf receiver sender (result_of (not (eqb success 0)))) (length out.old)) out.old out.new result }
 {
-    octet_count(amplitude::write_cnf(Receiver(receiver), Sender(sender), success != 0, out))
+    count(amplitude::write_cnf(Receiver(receiver), Sender(sender), success != 0, out))
 }
 
 // Puts the reduction of each carrier, for a request's values and our levels in dBm/Hz, into a slice; a refusal changes nothing.
@@ -168,5 +149,5 @@ pub extern "C" fn lahzavar_reduce_map(
 ) -> Counted
     ensures { Fills (reduce_rules values.now levels.now (length reductions.old)) reductions.old reductions.new result }
 {
-    filled_count(amplitude::reduce(values, levels, reductions))
+    count(amplitude::reduce(values, levels, reductions))
 }

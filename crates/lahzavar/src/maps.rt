@@ -12,7 +12,6 @@ ghost use Rattle.lahzavar.specs.Lent.{Lent};
 
 use crate::{Answered, answers};
 use messages::{CarAddress, Refusal};
-use receiving::judge::MapJudged;
 use receiving::{judge, maps};
 use rules::State;
 use words::StationWords;
@@ -21,8 +20,7 @@ use words::StationWords;
 fn map_req(words: &StationWords, car: CarAddress, carriers: usize, out: &mut [u8]) -> Answered
     ensures { (s z : List ℕ) → Ready (station_of words.now s z) car out.old → Takes car (map_req carriers) words.now s z out.old out.new words.now s z result }
 {
-    let state = words::state_of(words);
-    let State::Matched(owner) = state else {
+    let State::Matched(owner) = words::state_of(words) else {
         return answers::refused(Refusal::WrongState);
     };
     let config = words::config_of(words);
@@ -42,10 +40,8 @@ pub(crate) fn unread(
     if !judge::is_unknown(refusal) {
         return answers::refused(refusal);
     }
-    let us = words::identity_of(words);
-    let judged = judge::judge_map(us, octets);
-    match judged {
-        MapJudged::Refused(untaken) => answers::refused(untaken),
-        MapJudged::Asked { car, carriers } => map_req(words, car, carriers, out),
+    match judge::judge_map(words::identity_of(words), octets) {
+        Err(untaken) => answers::refused(untaken),
+        Ok(asking) => map_req(words, asking.car, asking.carriers, out),
     }
 }

@@ -1,4 +1,5 @@
 // MATCH.REQ, in place: of each record one word is stored.
+// Car, run and octets go one by one: the rules name each (`join_rule`, `asking`), and a struct would be made and taken apart in every function.
 ghost use Rattle.std.specs.Prelude.{List, [], ◌∷◌, ℕ};
 ghost use Rattle.rules.specs.FromOctets.{OctetRequest};
 ghost use Rattle.rules.specs.Replies.{frames_to};
@@ -11,9 +12,7 @@ use crate::{Answered, answers};
 use ends::{Indication, JOINING_TIME};
 use messages::{CarAddress, Refusal, RunId};
 use receiving::reply;
-use records::find::Found;
 use records::requests;
-use records::requests::Verdict;
 use rules::State;
 use words::{StationSpread, StationSums, StationWords};
 
@@ -50,21 +49,19 @@ fn join(
     requires { Ready (station_of words.old sums.old spread.old) car out.old × OctetRequest (edition_in words.old) (asking (edition_in words.old) run octets.now) }
     ensures { Comes (join_rule (station_of words.old sums.old spread.old) car run (first_id (edition_in words.old) octets.now) (second_id (edition_in words.old) octets.now)) words.old sums.old spread.old out.old out.new words.new sums.new spread.new result }
 {
-    let found = words::own_place(words, car);
-    let Found::Own(i) = found else {
+    let Some(i) = words::own_place(words, car) else {
         return answers::refused(Refusal::NoRecord);
     };
     let r = words::record_at(words, sums, spread, i);
-    let verdict = requests::match_req(r, run);
-    match verdict {
-        Verdict::Refused(refusal) => answers::refused(refusal),
-        Verdict::Accepted => {
+    match requests::match_req(r, run) {
+        Err(refusal) => answers::refused(refusal),
+        Ok(()) => {
             let pilot = words::pilot_of(words);
             let clock = words::clock_of(words);
             let joining = State::Joining {
                 left: JOINING_TIME,
-                car: car,
-                run: run,
+                car,
+                run,
             };
             words::free_all(words);
             words::put_state(words, joining, pilot, clock);
@@ -86,15 +83,14 @@ pub(crate) fn match_req(
     requires { Ready (station_of words.old sums.old spread.old) car out.old × OctetRequest (edition_in words.old) (asking (edition_in words.old) run octets.now) }
     ensures { Takes car (asking (edition_in words.old) run octets.now) words.old sums.old spread.old out.old out.new words.new sums.new spread.new result }
 {
-    let state = words::state_of(words);
-    match state {
+    match words::state_of(words) {
         State::Matching(_) => join(words, sums, spread, car, run, octets, out),
         State::Joining {
-            left: _,
             car: owner,
             run: own,
+            ..
         } => {
-            if (car.0 == owner.0) & (run.0 == own.0) {
+            if (car == owner) & (run == own) {
                 confirm(words, car, run, octets, out)
             } else {
                 answers::refused(Refusal::NoRecord)

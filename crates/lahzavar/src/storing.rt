@@ -18,13 +18,12 @@ pub(crate) fn settle(
     requires { Invariant stepped.station }
     ensures { Settles stepped words.old sums.old spread.old words.new sums.new spread.new result }
 {
-    let answer = stepped.answer;
-    let station = stepped.station;
-    let said = answers::answered(answer);
+    let said = answers::answered(stepped.answer);
+    // By the number that C is told: `Settles` says by it what is stored.
     if said.refusal != 0 {
         return said;
     }
-    words::pack(station, words, sums, spread);
+    words::pack(stepped.station, words, sums, spread);
     said
 }
 
@@ -44,8 +43,6 @@ pub(crate) fn configure(
     ensures { Configures address modem nid nmk exempt edition carriers words.new sums.new spread.new result }
 {
     let made = rules::configure(address, modem, nid, nmk, exempt, edition, carriers);
-    let station = made.station;
-    let answer = made.answer;
-    words::pack(station, words, sums, spread);
-    answers::answered(answer)
+    words::pack(made.station, words, sums, spread);
+    answers::answered(made.answer)
 }

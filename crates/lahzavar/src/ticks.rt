@@ -10,7 +10,6 @@ ghost use Rattle.lahzavar.specs.Events.{Passes};
 ghost use Rattle.lahzavar.specs.Lent.{Lent};
 
 use crate::{Answered, answers, storing};
-use ends::{Answer, TickTime};
 use rules::{LEAST_OUTPUT, State};
 use station::ticks;
 use words::{StationSpread, StationSums, StationWords};
@@ -36,14 +35,9 @@ fn pass(words: &mut StationWords, state: State, reading: u32, elapsed: u32) -> A
 {
     let after = ticks::state_after(state, elapsed);
     let next = after.state;
-    let indication = after.indication;
     let pilot = words::pilot_of(words);
     words::put_state(words, next, pilot, reading);
-    answers::answered(Answer::Done {
-        frames: 0,
-        octets: 0,
-        indication: indication,
-    })
+    answers::silent(after.indication)
 }
 
 // What so many milliseconds come to: in Matching the times of records run too.
@@ -77,9 +71,8 @@ pub(crate) fn tick(
 {
     let us = words::identity_of(words);
     let last = words::clock_of(words);
-    let time = ends::tick_time(us.good, LEAST_OUTPUT, out.len(), reading, last);
-    match time {
-        TickTime::Refused(refusal) => answers::refused(refusal),
-        TickTime::Elapsed(elapsed) => run(words, sums, spread, reading, elapsed, out),
+    match ends::tick_time(us.good, LEAST_OUTPUT, out.len(), reading, last) {
+        Err(refusal) => answers::refused(refusal),
+        Ok(elapsed) => run(words, sums, spread, reading, elapsed, out),
     }
 }

@@ -1,13 +1,12 @@
 // The first VALIDATE.REQ, in place: of other cars' records the phase is read.
 ghost use Rattle.std.specs.Prelude.{◌<◌, ◌≡◌, [], ◌∷◌};
 ghost use Rattle.messages.specs.Table.{result_limit};
-ghost use Rattle.ends.specs.Outcomes.{and_then};
 ghost use Rattle.rules.specs.Frames.{keeps};
 ghost use Rattle.rules.specs.Invariant.{GoodRecord};
 ghost use Rattle.rules.specs.Received.{for_record, validate_first};
 ghost use Rattle.rules.specs.Records.{owned};
 ghost use Rattle.rules.specs.Replies.{confirmation};
-ghost use Rattle.records.specs.Requests.{verdict_of};
+ghost use Rattle.records.specs.Requests.{validated_of};
 ghost use Rattle.station.specs.Frames.{Ready};
 ghost use Rattle.words.specs.Words.{edition_in, station_of};
 ghost use Rattle.lahzavar.specs.Frames.{Takes, Puts};
@@ -15,8 +14,6 @@ ghost use Rattle.lahzavar.specs.Frames.{Takes, Puts};
 use crate::{Answered, answers, frames};
 use messages::{CarAddress, Refusal};
 use receiving::reply;
-use records::find::Found;
-use records::requests::{Validated, Verdict};
 use records::{changes, requests, validation};
 use rules::{Record, State};
 use words::{StationSpread, StationSums, StationWords};
@@ -53,18 +50,16 @@ fn settle(
     spread: &mut StationSpread,
     i: usize,
     car: CarAddress,
-    validated: Validated,
+    validated: Result<Record, Refusal>,
     res: u8,
     out: &mut [u8],
 ) -> Answered
-    requires { Ready (station_of words.old sums.old spread.old) car out.old × ((validated.verdict ≡ Verdict.Accepted → GoodRecord (edition_in words.old) (owned car validated.kept)) × (res < result_limit)) }
-    ensures { Puts i car (and_then (verdict_of validated.verdict) (λ (x : Unit {0}). keeps validated.kept (confirmation 0 res ∷ []))) words.old sums.old spread.old out.old out.new words.new sums.new spread.new result }
+    requires { Ready (station_of words.old sums.old spread.old) car out.old × (((left : Record) → validated ≡ Ok left → GoodRecord (edition_in words.old) (owned car left)) × (res < result_limit)) }
+    ensures { Puts i car (validated_of res validated) words.old sums.old spread.old out.old out.new words.new sums.new spread.new result }
 {
-    let left = validated.kept;
-    let verdict = validated.verdict;
-    match verdict {
-        Verdict::Refused(refusal) => answers::refused(refusal),
-        Verdict::Accepted => confirm(words, sums, spread, i, car, left, res, out),
+    match validated {
+        Err(refusal) => answers::refused(refusal),
+        Ok(left) => confirm(words, sums, spread, i, car, left, res, out),
     }
 }
 
@@ -79,17 +74,14 @@ pub(crate) fn validate_first(
     requires { Ready (station_of words.old sums.old spread.old) car out.old }
     ensures { Takes car (for_record validate_first) words.old sums.old spread.old out.old out.new words.new sums.new spread.new result }
 {
-    let state = words::state_of(words);
-    let State::Matching(_) = state else {
+    let State::Matching(_) = words::state_of(words) else {
         return answers::refused(Refusal::WrongState);
     };
-    let found = words::own_place(words, car);
-    let Found::Own(i) = found else {
+    let Some(i) = words::own_place(words, car) else {
         return answers::refused(Refusal::NoRecord);
     };
-    let config = words::config_of(words);
     let any = words::any_validates(words);
-    let result = validation::first_result(config.exempt, any);
+    let result = validation::first_result(words::config_of(words).exempt, any);
     let r = words::record_at(words, sums, spread, i);
     let validated = requests::validate_first(r, result);
     settle(words, sums, spread, i, car, validated, result, out)

@@ -124,6 +124,12 @@ groups_stored v x w at n m h k e =
     ap (put_mid at n x) (e ∙ ap (sets (take n (drop at x)) 0) (take_all group_count v (omega arith)))
     ∙ sets_lent at n x v (omega arith) (omega arith)
 
+-- a run copied over a part of its length
+pub run_stored : (v x w : List ℕ) (at n : ℕ) → n ≡ length v → at + length v ≤ length x → w ≡ v → put_mid at n x w ≡ sets x at v
+run_stored v x w at n m h e =
+    let l : length v ≡ length (take n (drop at x)) = rw (length-take, length-drop) (omega arith) in
+    ap (put_mid at n x) (e ∙ sym (sets_whole v (take n (drop at x)) l)) ∙ sets_lent at n x v (omega arith) (omega arith)
+
 -- read in its two parts
 pub spread_read : (x : List ℕ) (at : ℕ) (r : Spread) → r.least ≡ part x at group_count → r.greatest ≡ part x (at + group_count) group_count → r ≡ spread_of (part x at spread_width)
 unfolding spread_of

@@ -23,18 +23,16 @@ use Rattle.words.proofs.RecordWords.{place, length_records, record_at}
 
 -- the records before i are freed, and no other word has changed
 pub record FreedSo (w v : List ℕ) (i : ℕ) : Type 0 where
-  pub turns : i ≤ record_count
   pub words : length v ≡ length w
   pub done : (k : ℕ) → k < i → get_or v (place k) 0 ≡ 0
   pub others : (j : ℕ) → ((k : ℕ) → j ≡ place k → ⊥) → get_or v j 0 ≡ get_or w j 0
 
 pub freed_start : (w : List ℕ) → FreedSo w w 0
-freed_start w = record { turns = omega arith; words = refl; done = λ k h. absurd (omega arith); others = λ j h. refl }
+freed_start w = record { words = refl; done = λ k h. absurd (omega arith); others = λ j h. refl }
 
 module _ (w v : List ℕ) (i : ℕ) (q : FreedSo w v i) where
   pub freed_next : i < record_count → length w ≡ word_count → FreedSo w (set v (place i) 0) (i + 1)
   freed_next h l = record {
-    turns = omega arith;
     words = length-set v (place i) 0 ∙ q.words;
     done = λ k b. split (eqb k i)
         (λ e. ap (λ (n : ℕ). get_or (set v (place i) 0) (place n) 0) (eqb-true k i e) ∙ get_or-set_same v (place i) 0 0 (omega (arith, q.words)))

@@ -19,7 +19,6 @@ use Rattle.words.proofs.RecordWords.{length_records}
 
 -- the records before i are read
 pub record ReadSo (w s x : List ℕ) (rs : List Record) (i : ℕ) : Type 0 where
-  pub turns : i ≤ record_count
   pub size : length rs ≡ record_count
   pub done : take i rs ≡ take i (records_of w s x)
 
@@ -28,7 +27,6 @@ module _ (w s x : List ℕ) (rs : List Record) (i : ℕ) (q : ReadSo w s x rs i)
   read_next r z h e =
       let l : i < length (records_of w s x) = rw (length_records w s x) h in
       record {
-        turns = omega arith;
         size = length-set rs i r ∙ q.size;
         done = ap (λ (y : Record). take (i + 1) (set rs i y)) e ∙ take_more rs (records_of w s x) i z q.done (omega (arith, q.size)) l;
       }
@@ -40,7 +38,6 @@ module _ (w s x : List ℕ) (rs : List Record) (i : ℕ) (q : ReadSo w s x rs i)
 
 -- the records before i are stored, and nothing else has changed
 pub record StoredSo (rs : List Record) (w₀ s₀ x₀ w s x : List ℕ) (i : ℕ) : Type 0 where
-  pub turns : i ≤ record_count
   pub words : length w ≡ length w₀
   pub sums : length s ≡ length s₀
   pub spread : length x ≡ length x₀
@@ -49,7 +46,7 @@ pub record StoredSo (rs : List Record) (w₀ s₀ x₀ w s x : List ℕ) (i : �
 
 pub stored_start : (rs : List Record) (w s x : List ℕ) → StoredSo rs w s x w s x 0
 unfolding station_of
-stored_start rs w s x = record { turns = omega arith; words = refl; sums = refl; spread = refl; station = refl; done = refl }
+stored_start rs w s x = record { words = refl; sums = refl; spread = refl; station = refl; done = refl }
 
 module _ (rs : List Record) (w₀ s₀ x₀ w s x : List ℕ) (i : ℕ) (q : StoredSo rs w₀ s₀ x₀ w s x i) where
   -- the records are still good in the words' edition
@@ -66,7 +63,6 @@ module _ (rs : List Record) (w₀ s₀ x₀ w s x : List ℕ) (i : ℕ) (q : Sto
       let new : records_of v t y ≡ set (records_of w s x) i (get_or rs i z) = ap (λ (u : Station). u.records) e in
       let l : i < length (records_of w s x) = rw (length_records w s x) h in
       record {
-        turns = omega arith;
         words = lv ∙ q.words;
         sums = lt ∙ q.sums;
         spread = ly ∙ q.spread;

@@ -1,14 +1,14 @@
 // Single fields: the numbers that a word may mean, and the numbers that are written.
-ghost use Rattle.std.specs.Prelude.{◌≡◌, ◌*◌, ◌^◌, ◌%◌, ◌<◌, min};
+ghost use Rattle.std.specs.Prelude.{◌≡◌, ◌*◌, ◌^◌, ◌%◌, ◌<◌};
 ghost use Rattle.rules.specs.Constants.{sounds_per_try};
 ghost use Rattle.words.specs.Words.{some_of, later_of, counting_of, phase_of, profiles_of, groups_of, most_sum, state_by};
-ghost use Rattle.words.specs.Written.{counting_number, phase_number, phase_count, state_time, state_run, pilot_number, edition_number};
+ghost use Rattle.words.specs.Written.{phase_number, phase_count, state_time, state_run};
 
 use ends::RETRIES;
 use messages::{CarAddress, Edition, GROUPS, RunId};
 use rules::{
-    ASKED_TIME, AWAITING_TIME, LONGEST_WINDOW, MOST_TOGGLES, Phase, Pilot, READY_TIME,
-    REPORTED_TIME, SUCCESS_TIME, State, tries,
+    ASKED_TIME, AWAITING_TIME, LONGEST_WINDOW, MOST_TOGGLES, Phase, READY_TIME, REPORTED_TIME,
+    SUCCESS_TIME, State, tries,
 };
 
 // How many sets of sound counts there are: two to the number of sounds.
@@ -24,17 +24,14 @@ const LATER_SETS: u64 = 65536;
 fn some(most: u8, word: u64) -> u8
     ensures { result ≡ some_of most word }
 {
-    ends::fields::at_most_count(most, ends::fields::positive(word))
+    ends::fields::at_most_count(most, word.max(1))
 }
 
 // Whether the try is a later one: with ISO never.
 pub(crate) fn later(edition: Edition, word: u64) -> bool
     ensures { result ≡ later_of edition word }
 {
-    match edition {
-        Edition::Iso => false,
-        Edition::Sae => word == 1,
-    }
+    edition == Edition::Sae && word == 1
 }
 
 // A set of sound counts.
@@ -43,28 +40,16 @@ pub(crate) fn heard(edition: Edition, later: bool, x: u64) -> u16
 {
     match edition {
         Edition::Iso => (x % HEARD_SETS) as u16,
-        Edition::Sae => {
-            if later {
-                (x % LATER_SETS) as u16
-            } else {
-                (x % FIRST_SETS) as u16
-            }
-        }
+        Edition::Sae if later => (x % LATER_SETS) as u16,
+        Edition::Sae => (x % FIRST_SETS) as u16,
     }
-}
-
-// The same for a sum.
-pub(crate) fn at_most_sum(most: u16, x: u16) -> u16
-    ensures { result ≡ min most x }
-{
-    if x < most { x } else { most }
 }
 
 // The greatest sum of so many profiles.
 pub(crate) fn most_sum(profiles: u8) -> u16
     ensures { result ≡ most_sum profiles }
 {
-    255 * (profiles as u16)
+    255 * u16::from(profiles)
 }
 
 // Counting, by whether a toggle has begun.
@@ -74,11 +59,11 @@ fn counting(left: u64, toggles: u64, begun: bool) -> Phase
     Phase::Counting {
         left: ends::fields::time(LONGEST_WINDOW, left),
         toggles: ends::fields::at_most_count(MOST_TOGGLES, toggles),
-        begun: begun,
+        begun,
     }
 }
 
-// A phase by its number; any other number is Asked.
+// A phase by its number, which any word of the C interface may be; a number that is no other phase's is Asked.
 pub(crate) fn phase(edition: Edition, later: bool, number: u64, left: u64, count: u64) -> Phase
     ensures { result ≡ phase_of edition later number left count }
 {
@@ -114,18 +99,12 @@ pub(crate) fn groups(edition: Edition, profiles: u8, word: u64) -> usize
     ensures { result ≡ groups_of edition profiles word }
 {
     match edition {
-        Edition::Iso => 0,
-        Edition::Sae => {
-            if profiles == 0 {
-                0
-            } else {
-                some(GROUPS as u8, word) as usize
-            }
-        }
+        Edition::Sae if profiles != 0 => usize::from(some(GROUPS as u8, word)),
+        _ => 0,
     }
 }
 
-// A state by its number; any other number is Unmatched.
+// A state by its number, as any word may be one; a number that is no other state's is Unmatched.
 pub(crate) fn state(number: u64, left: u64, car: u64, run: u64) -> State
     ensures { result ≡ state_by number left car run }
 {
@@ -141,31 +120,18 @@ pub(crate) fn state(number: u64, left: u64, car: u64, run: u64) -> State
     }
 }
 
-// The number of counting, by whether a toggle has begun.
-fn counting_number(begun: bool) -> u64
-    ensures { result ≡ counting_number begun }
-{
-    if begun { 6 } else { 5 }
-}
-
-// The number of a phase.
+// The number of a phase, for the words of the C interface.
 pub(crate) fn phase_number(phase: Phase) -> u64
     ensures { result ≡ phase_number phase }
 {
     match phase {
         Phase::Asked(_) => 0,
         Phase::Sounding(_) => 1,
-        Phase::Reported {
-            left: _,
-            retries: _,
-        } => 2,
+        Phase::Reported { .. } => 2,
         Phase::Awaiting(_) => 3,
         Phase::Ready(_) => 4,
-        Phase::Counting {
-            left: _,
-            toggles: _,
-            begun,
-        } => counting_number(begun),
+        Phase::Counting { begun: false, .. } => 5,
+        Phase::Counting { begun: true, .. } => 6,
         Phase::Success(_) => 7,
     }
 }
@@ -175,17 +141,9 @@ pub(crate) fn phase_count(phase: Phase) -> u8
     ensures { result ≡ phase_count phase }
 {
     match phase {
-        Phase::Asked(_) => 0,
-        Phase::Sounding(_) => 0,
-        Phase::Reported { left: _, retries } => retries,
-        Phase::Awaiting(_) => 0,
-        Phase::Ready(_) => 0,
-        Phase::Counting {
-            left: _,
-            toggles,
-            begun: _,
-        } => toggles,
-        Phase::Success(_) => 0,
+        Phase::Reported { retries, .. } => retries,
+        Phase::Counting { toggles, .. } => toggles,
+        _ => 0,
     }
 }
 
@@ -194,14 +152,8 @@ pub(crate) fn state_time(state: State) -> u32
     ensures { result ≡ state_time state }
 {
     match state {
-        State::Unmatched => 0,
-        State::Matching(left) => left,
-        State::Joining {
-            left,
-            car: _,
-            run: _,
-        } => left,
-        State::Matched(_) => 0,
+        State::Matching(left) | State::Joining { left, .. } => left,
+        State::Unmatched | State::Matched(_) => 0,
     }
 }
 
@@ -209,38 +161,9 @@ pub(crate) fn state_time(state: State) -> u32
 pub(crate) fn state_run(state: State) -> u64
     ensures { result ≡ state_run state }
 {
-    match state {
-        State::Unmatched => 0,
-        State::Matching(_) => 0,
-        State::Joining {
-            left: _,
-            car: _,
-            run,
-        } => run.0,
-        State::Matched(_) => 0,
-    }
-}
-
-// The number of a pilot state.
-pub(crate) fn pilot_number(pilot: Pilot) -> u64
-    ensures { result ≡ pilot_number pilot }
-{
-    match pilot {
-        Pilot::A => 0,
-        Pilot::B => 1,
-        Pilot::C => 2,
-        Pilot::D => 3,
-        Pilot::E => 4,
-        Pilot::F => 5,
-    }
-}
-
-// The number of an edition.
-pub(crate) fn edition_number(edition: Edition) -> u64
-    ensures { result ≡ edition_number edition }
-{
-    match edition {
-        Edition::Iso => 0,
-        Edition::Sae => 1,
+    if let State::Joining { run, .. } = state {
+        run.0
+    } else {
+        0
     }
 }

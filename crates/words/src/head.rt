@@ -1,10 +1,10 @@
 // The head: the configuration, the state, the pilot state and the clock; whether validation is not required, the edition and the carriers stand last.
-ghost use Rattle.std.specs.Prelude.{◌≡◌, ◌≤◌, length};
+ghost use Rattle.std.specs.Prelude.{◌≡◌};
 ghost use Rattle.std.proofs.lemmas.List.Edits.{sets};
-ghost use Rattle.words.specs.Words.{head_count, config_of, identity, edition_in, state_of, pilot_in, clock_in};
+ghost use Rattle.words.specs.Words.{config_of, identity, edition_in, state_of, pilot_in, clock_in};
 ghost use Rattle.words.specs.Written.{state_place, state_words, head_of, TimesFit, Fits};
 
-use crate::{HEAD, fields};
+use crate::{HEAD, StationWords, fields};
 use messages::{Edition, ModemAddress, Nid, Nmk, StationAddress};
 use rules::{Configuration, Pilot, State};
 
@@ -14,126 +14,120 @@ const STATE_PLACE: usize = 6;
 // How many words these have.
 const STATE_WIDTH: usize = 6;
 
-// The identity of the configuration: what a frame is judged by.
-pub(crate) fn identity(words: &[u64]) -> Configuration
-    requires { head_count ≤ length words.now }
+// The identity of the configuration, by five words: what a frame is judged by.
+pub fn identity_of(words: &StationWords) -> Configuration
     ensures { result ≡ identity (config_of words.now) }
 {
     let address = StationAddress(words[1]);
     let modem = ModemAddress(words[2]);
-    let good = rules::may_reply(address, modem, Nid(words[3]));
     Configuration {
-        good: (words[0] == 1) & good,
-        address: address,
-        modem: modem,
+        good: words[0] == 1 && rules::may_reply(address, modem, Nid(words[3])),
+        address,
+        modem,
         nid: Nid(0),
         nmk: Nmk(0, 0),
         exempt: false,
-        edition: rules::edition_of(words[13]),
+        edition: edition_of(words),
         carriers: 0,
     }
 }
 
 // The configuration.
-pub(crate) fn config(words: &[u64]) -> Configuration
-    requires { head_count ≤ length words.now }
+pub fn config_of(words: &StationWords) -> Configuration
     ensures { result ≡ config_of words.now }
 {
-    let us = identity(words);
-    let address = us.address;
-    let modem = us.modem;
-    let edition = us.edition;
     Configuration {
-        good: us.good,
-        address: address,
-        modem: modem,
         nid: Nid(words[3]),
         nmk: Nmk(words[4], words[5]),
         exempt: words[12] == 1,
-        edition: edition,
         carriers: ends::fields::low(words[14]),
+        ..identity_of(words)
     }
 }
 
-// Its edition.
-pub(crate) fn edition(words: &[u64]) -> Edition
-    requires { head_count ≤ length words.now }
+// The edition, by one word.
+pub fn edition_of(words: &StationWords) -> Edition
     ensures { result ≡ edition_in words.now }
 {
     rules::edition_of(words[13])
 }
 
 // The state.
-pub(crate) fn state(words: &[u64]) -> State
-    requires { head_count ≤ length words.now }
+pub fn state_of(words: &StationWords) -> State
     ensures { result ≡ state_of words.now }
 {
     fields::state(words[6], words[7], words[8], words[9])
 }
 
 // The pilot state.
-pub(crate) fn pilot(words: &[u64]) -> Pilot
-    requires { head_count ≤ length words.now }
+pub fn pilot_of(words: &StationWords) -> Pilot
     ensures { result ≡ pilot_in words.now }
 {
-    rules::pilot_of(words[10])
+    Pilot::from(words[10])
 }
 
 // The clock.
-pub(crate) fn clock(words: &[u64]) -> u32
-    requires { head_count ≤ length words.now }
+pub fn clock_of(words: &StationWords) -> u32
     ensures { result ≡ clock_in words.now }
 {
     ends::fields::low(words[11])
 }
 
 // The words of the state, the pilot state and the clock.
+// Three values and no struct: one would be made of a station's fields to be taken apart here at once.
 fn state_words(state: State, pilot: Pilot, clock: u32) -> [u64; STATE_WIDTH]
     ensures { (result ≡ state_words state pilot clock) × TimesFit state clock }
 {
-    let number = ends::fields::from32(rules::state_number(state));
-    let left = ends::fields::from32(fields::state_time(state));
-    let car = rules::car_in(state);
-    let run = fields::state_run(state);
-    let at = fields::pilot_number(pilot);
-    let reading = ends::fields::from32(clock);
-    [number, left, car.0, run, at, reading]
+    [
+        u64::from(rules::state_number(state)),
+        u64::from(fields::state_time(state)),
+        rules::car_in(state).0,
+        fields::state_run(state),
+        pilot as u64,
+        u64::from(clock),
+    ]
 }
 
 // The words of the head.
 fn head_words(config: Configuration, state: State, pilot: Pilot, clock: u32) -> [u64; HEAD]
     ensures { (result ≡ head_of config state pilot clock) × Fits config state clock }
 {
-    let address = config.address;
-    let modem = config.modem;
-    let nid = config.nid;
-    let nmk = config.nmk;
-    let good = ends::fields::flag(config.good);
-    let now = state_words(state, pilot, clock);
-    let exempt = ends::fields::flag(config.exempt);
-    let kind = config.edition;
-    let edition = fields::edition_number(kind);
-    let carriers = ends::fields::from32(config.carriers);
+    let [number, left, car, run, at, reading] = state_words(state, pilot, clock);
     [
-        good, address.0, modem.0, nid.0, nmk.0, nmk.1, now[0], now[1], now[2], now[3], now[4],
-        now[5], exempt, edition, carriers,
+        u64::from(config.good),
+        config.address.0,
+        config.modem.0,
+        config.nid.0,
+        config.nmk.0,
+        config.nmk.1,
+        number,
+        left,
+        car,
+        run,
+        at,
+        reading,
+        u64::from(config.exempt),
+        config.edition as u64,
+        u64::from(config.carriers),
     ]
 }
 
 // Stores the state, the pilot state and the clock.
-pub(crate) fn put_state(words: &mut [u64], state: State, pilot: Pilot, clock: u32)
-    requires { head_count ≤ length words.old }
+pub(crate) fn put_state(words: &mut StationWords, state: State, pilot: Pilot, clock: u32)
     ensures { (words.new ≡ sets words.old state_place (state_words state pilot clock)) × TimesFit state clock }
 {
-    let now = state_words(state, pilot, clock);
-    ends::runs::put_words(&now, words, STATE_PLACE);
+    ends::runs::put_words(&state_words(state, pilot, clock), words, STATE_PLACE);
 }
 
 // Stores the head.
-pub(crate) fn put(words: &mut [u64], config: Configuration, state: State, pilot: Pilot, clock: u32)
-    requires { head_count ≤ length words.old }
+pub(crate) fn put(
+    words: &mut StationWords,
+    config: Configuration,
+    state: State,
+    pilot: Pilot,
+    clock: u32,
+)
     ensures { (words.new ≡ sets words.old 0 (head_of config state pilot clock)) × Fits config state clock }
 {
-    let head = head_words(config, state, pilot, clock);
-    ends::runs::put_words(&head, words, 0);
+    ends::runs::put_words(&head_words(config, state, pilot, clock), words, 0);
 }

@@ -1,100 +1,95 @@
 // The whole station: out of its words, sums and spread, and into them.
-ghost use Rattle.std.specs.Prelude.{◌≡◌, List, map, ℕ, length};
+ghost use Rattle.std.specs.Prelude.{◌≡◌, List, map, ℕ};
 ghost use Rattle.rules.specs.Invariant.{GoodRecord, Invariant};
 ghost use Rattle.rules.specs.Records.{freed};
 ghost use Rattle.ends.specs.Lists.{All};
-ghost use Rattle.words.specs.Words.{word_count, sum_count, spread_count, edition_in, records_of, station_of, with_records, in_state};
+ghost use Rattle.words.specs.Words.{edition_in, records_of, station_of, with_records, in_state};
 ghost use Rattle.words.specs.Wiped.{Wiped};
 
-use crate::{HEAD, WIDTH, copies, head, one_record};
+use crate::{HEAD, StationSpread, StationSums, StationWords, WIDTH, head, one_record};
 use rules::{Pilot, RECORDS, RecordArray, State, Station};
 
 // All records.
-fn read_all(words: &[u64], sums: &[u16], spread: &[u8]) -> RecordArray
-    requires { (length words.now ≡ word_count) × ((length sums.now ≡ sum_count) × (length spread.now ≡ spread_count)) }
+fn read_all(words: &StationWords, sums: &StationSums, spread: &StationSpread) -> RecordArray
     ensures { result ≡ records_of words.now sums.now spread.now }
 {
     let first = one_record::read(words, sums, spread, 0);
     let mut rs = [first; RECORDS];
-    let mut i: usize = 0;
-    while i < RECORDS {
+    for i in 0..RECORDS {
         rs[i] = one_record::read(words, sums, spread, i);
-        i = i + 1;
     }
     rs
 }
 
-// The station that the words, sums and spread mean.
-pub(crate) fn unpack(words: &[u64], sums: &[u16], spread: &[u8]) -> Station
-    requires { (length words.now ≡ word_count) × ((length sums.now ≡ sum_count) × (length spread.now ≡ spread_count)) }
+// The station that the words, sums and spread mean: any do.
+pub fn unpack(words: &StationWords, sums: &StationSums, spread: &StationSpread) -> Station
     ensures { (result ≡ station_of words.now sums.now spread.now) × Invariant result }
 {
-    let config = head::config(words);
-    let state = head::state(words);
-    let pilot = head::pilot(words);
-    let clock = head::clock(words);
-    let records = read_all(words, sums, spread);
     Station {
-        config: config,
-        state: state,
-        pilot: pilot,
-        clock: clock,
-        records: records,
+        config: head::config_of(words),
+        state: head::state_of(words),
+        pilot: head::pilot_of(words),
+        clock: head::clock_of(words),
+        records: read_all(words, sums, spread),
     }
 }
 
 // Stores all records.
-fn store_all(records: RecordArray, words: &mut [u64], sums: &mut [u16], spread: &mut [u8])
-    requires { All (GoodRecord (edition_in words.old)) records × ((length words.old ≡ word_count) × ((length sums.old ≡ sum_count) × (length spread.old ≡ spread_count))) }
+fn store_all(
+    records: RecordArray,
+    words: &mut StationWords,
+    sums: &mut StationSums,
+    spread: &mut StationSpread,
+)
+    requires { All (GoodRecord (edition_in words.old)) records }
     ensures { station_of words.new sums.new spread.new ≡ with_records (station_of words.old sums.old spread.old) records }
 {
-    let mut i: usize = 0;
-    while i < RECORDS {
-        let r = records[i];
-        one_record::store(words, sums, spread, i, r);
-        i = i + 1;
+    for i in 0..RECORDS {
+        one_record::put_record(words, sums, spread, i, records[i]);
     }
 }
 
 // Stores a station.
-pub(crate) fn pack(station: Station, words: &mut [u64], sums: &mut [u16], spread: &mut [u8])
-    requires { Invariant station × ((length words.old ≡ word_count) × ((length sums.old ≡ sum_count) × (length spread.old ≡ spread_count))) }
+pub fn pack(
+    station: Station,
+    words: &mut StationWords,
+    sums: &mut StationSums,
+    spread: &mut StationSpread,
+)
+    requires { Invariant station }
     ensures { station_of words.new sums.new spread.new ≡ station }
 {
-    let config = station.config;
-    let state = station.state;
-    let pilot = station.pilot;
-    let records = station.records;
-    head::put(words, config, state, pilot, station.clock);
-    store_all(records, words, sums, spread);
+    head::put(
+        words,
+        station.config,
+        station.state,
+        station.pilot,
+        station.clock,
+    );
+    store_all(station.records, words, sums, spread);
 }
 
-// Frees every record: of each the first word is stored.
-pub(crate) fn free_all(words: &mut [u64])
-    requires { length words.old ≡ word_count }
+// Frees every record: of each one word is stored.
+pub fn free_all(words: &mut StationWords)
     ensures { (sums spread : List ℕ) → station_of words.new sums spread ≡ with_records (station_of words.old sums spread) (map freed (records_of words.old sums spread)) }
 {
-    let mut i: usize = 0;
-    while i < RECORDS {
+    for i in 0..RECORDS {
         words[HEAD + WIDTH * i] = 0;
-        i += 1;
     }
 }
 
 // Stores another state, pilot state and clock.
-pub(crate) fn put_state(words: &mut [u64], state: State, pilot: Pilot, clock: u32)
-    requires { length words.old ≡ word_count }
+pub fn put_state(words: &mut StationWords, state: State, pilot: Pilot, clock: u32)
     ensures { (sums spread : List ℕ) → station_of words.new sums spread ≡ in_state state pilot clock (station_of words.old sums spread) }
 {
     head::put_state(words, state, pilot, clock);
 }
 
-// Wipes a station.
-pub(crate) fn wipe(words: &mut [u64], sums: &mut [u16], spread: &mut [u8])
-    requires { (length words.old ≡ word_count) × ((length sums.old ≡ sum_count) × (length spread.old ≡ spread_count)) }
+// Wipes a station, its key too: it answers 16 to everything.
+pub fn wipe(words: &mut StationWords, sums: &mut StationSums, spread: &mut StationSpread)
     ensures { Wiped words.new sums.new spread.new }
 {
-    ends::runs::clear_words(words);
-    copies::clear_sums(sums);
-    copies::clear_spread(spread);
+    words.fill(0);
+    sums.fill(0);
+    spread.fill(0);
 }

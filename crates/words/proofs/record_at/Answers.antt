@@ -11,5 +11,5 @@ use Rattle.words.proofs.record_at.Goals as goal
 pub returns : goal.returns
 returns c =
     let a = c.args in
-    let e : _ ≡ get_or (records_of a.words.now a.sums.now a.spread.now) _ free_record = c.read.ensures ∙ ap (λ (k : ℕ). get_or (records_of a.words.now a.sums.now a.spread.now) k free_record) c.within.ensures in
+    let e : _ ≡ get_or (records_of a.words.now a.sums.now a.spread.now) _ free_record = c.read.ensures ∙ ap (λ (k : ℕ). get_or (records_of a.words.now a.sums.now a.spread.now) k free_record) c.min.ensures in
     (e, subst (GoodRecord (edition_in a.words.now)) (sym e) (at_meant a.words.now a.sums.now a.spread.now _))

@@ -3,6 +3,7 @@ use Rattle.car_rules.specs.declared.State.TheVariants.{Asking, Confirmed, Joinin
 use Rattle.car_words.proofs.StateLaws.{no_number}
 use Rattle.car_words.specs.Words.{state_by}
 use mathlib.Core.Path.{ap, ap₂}
+use native.Mathlib.Omega.{arith}
 use Rattle.car_words.proofs.fields.state.Goals as goal
 
 pub returns-in-1 : goal.returns-in-1
@@ -30,4 +31,4 @@ unfolding state_by
 returns-in-6 c = rw c.in-6.is
 
 pub returns-in_default : goal.returns-in_default
-returns-in_default c = no_number _ _ _ _ _ c.in_default.in_default-own.rest.0.0.0.0.0.1 c.in_default.in_default-own.rest.0.0.0.0.1 c.in_default.in_default-own.rest.0.0.0.1 c.in_default.in_default-own.rest.0.0.1 c.in_default.in_default-own.rest.0.1 c.in_default.in_default-own.rest.1
+returns-in_default c = no_number _ _ _ _ _ (omega arith) (omega arith) (omega arith) (omega arith) (omega arith) (omega arith)

@@ -9,10 +9,7 @@ loop-i-init c = stored_start _ _
 
 pub loop-i-preserved : goal.loop-i-preserved
 loop-i-preserved c =
-    stored_next c.args.reports c.args.words.now c.loop-i.words c.loop-i.i c.loop-i.invariant _ _ _ (omega arith) (search rules) (omega (arith, c.loop-i.invariant.size, c.requires)) c.report_words-own.ensures.0 c.report_words-own.ensures.1 c.put_words.ensures
-
-pub shape_of-words : goal.shape_of-words
-shape_of-words c = c.loop-i.invariant.size
+    stored_next c.args.reports c.args.words.now c.loop-i.words c.loop-i.i c.loop-i.invariant _ _ _ (omega arith) (search rules) (search rules) c.report_words.ensures.0 c.report_words.ensures.1 c.put_words.ensures
 
 pub returns : goal.returns
 returns c = stored_end _ _ _ _ c.loop-i.invariant c.loop-i-test.false (search rules)

@@ -1,11 +1,6 @@
 -- `car_words::reports::store` meets its contract: the reports before i are stored.
-use Prim.Native.Nat.{◌-◌}
-use Rattle.car_rules.specs.Constants.{station_count}
 use Rattle.car_words.proofs.WholeLaws.{StoredSo}
 use Rattle.car_words.proofs.reports.store.Given as goal
 
 abbrev pub invariant-loop-i : goal.invariant-loop-i
 invariant-loop-i l = StoredSo l.reports l.initial.words l.words l.i
-
-abbrev pub decreases-loop-i : goal.decreases-loop-i
-decreases-loop-i l = station_count - l.i

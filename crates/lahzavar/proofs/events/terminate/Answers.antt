@@ -3,8 +3,8 @@ use borrow.Author.Tests.{not-true, not-false}
 use Rattle.lahzavar.proofs.EventLaws.{unconfigured, terminates}
 use Rattle.lahzavar.proofs.events.terminate.Goals as goal
 
-pub returns-then-not-config : goal.returns-then-not-config
-returns-then-not-config c = unconfigured _ _ _ _ c.config_of-config.ensures (not-true _ c.if-not-config.true) c.refused.ensures
+pub returns-then-not-config_of : goal.returns-then-not-config_of
+returns-then-not-config_of c = unconfigured _ _ _ _ c.config_of.ensures (not-true _ c.if-not-config_of.true) c.refused.ensures
 
 pub returns : goal.returns
-returns c = terminates _ _ _ _ c.config_of-config.ensures (not-false _ c.if-not-config.false) _ _ c.pilot_of-pilot.ensures c.clock_of-clock.ensures c.end.ensures
+returns c = terminates _ _ _ _ c.config_of.ensures (not-false _ c.if-not-config_of.false) _ _ c.pilot_of-pilot.ensures c.clock_of-clock.ensures c.end.ensures

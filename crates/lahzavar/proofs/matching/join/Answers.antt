@@ -7,14 +7,13 @@ use Rattle.words.specs.Words.{edition_in}
 use Rattle.lahzavar.specs.Matching.{first_id, second_id}
 use Rattle.lahzavar.proofs.FrameLaws.{comes_as, comes_refused}
 use Rattle.lahzavar.proofs.MatchLaws.{ready_kept, octets_kept, config_joined, comes_joined, join_missing, join_verdict}
-use borrow.Enum.Refused.{opened}
 use Rattle.lahzavar.proofs.matching.join.Goals as goal
 
 pub returns-in_default : goal.returns-in_default
 returns-in_default c =
     let a = c.args in
     comes_refused _ NoRecord a.words.now a.sums.now a.spread.now a.out.now c.refused.result
-    (join_missing a.words.now a.sums.now a.spread.now a.car a.run (first_id (edition_in a.words.now) a.octets.now) (second_id (edition_in a.words.now) a.octets.now) c.own_place-found.result c.own_place-found.ensures (opened c.in_default.in_default-own.keys2)) c.refused.ensures
+    (join_missing a.words.now a.sums.now a.spread.now a.car a.run (first_id (edition_in a.words.now) a.octets.now) (second_id (edition_in a.words.now) a.octets.now) c.own_place.result c.own_place.ensures c.in_default.is) c.refused.ensures
 
 pub confirm-requires : goal.confirm-requires
 confirm-requires c =
@@ -22,17 +21,17 @@ confirm-requires c =
     let same = config_joined a.words.now _ _ _ _ _ c.free_all.ensures c.put_state.ensures in
     (λ x y. ready_kept a.words.now _ same a.sums.now a.spread.now x y a.out.now a.car c.requires.0, octets_kept a.words.now _ same a.run a.octets.now c.requires.1)
 
-pub returns-in-Refused : goal.returns-in-Refused
-returns-in-Refused c =
+pub returns-in-Err : goal.returns-in-Err
+returns-in-Err c =
     let a = c.args in
-    comes_refused _ c.in-Refused.refusal a.words.now a.sums.now a.spread.now a.out.now c.refused-in-Refused.result
-    (join_verdict a.words.now a.sums.now a.spread.now a.car a.run (first_id (edition_in a.words.now) a.octets.now) (second_id (edition_in a.words.now) a.octets.now) c.own_place-found.result c.own_place-found.ensures _ _ c.record_at-r.result _ c.in-Own.is c.record_at-r.ensures.0 (sym (ap verdict_of c.in-Refused.is) ∙ c.match_req-verdict.ensures)) c.refused-in-Refused.ensures
+    comes_refused _ c.in-Err.refusal a.words.now a.sums.now a.spread.now a.out.now c.refused-in-Err.result
+    (join_verdict a.words.now a.sums.now a.spread.now a.car a.run (first_id (edition_in a.words.now) a.octets.now) (second_id (edition_in a.words.now) a.octets.now) c.own_place.result c.own_place.ensures _ _ c.record_at-r.result _ c.in-Some.is c.record_at-r.ensures.0 (sym (ap verdict_of c.in-Err.is) ∙ c.match_req.ensures)) c.refused-in-Err.ensures
 
-pub returns-in-Accepted : goal.returns-in-Accepted
-returns-in-Accepted c =
+pub returns-in-Ok : goal.returns-in-Ok
+returns-in-Ok c =
     let a = c.args in
     let freed = c.free_all.ensures in
     let put = c.put_state.ensures in
     comes_as _ _ a.words.now a.sums.now a.spread.now a.out.now _ _ _ _ c.confirm.result
-    (sym (join_verdict a.words.now a.sums.now a.spread.now a.car a.run (first_id (edition_in a.words.now) a.octets.now) (second_id (edition_in a.words.now) a.octets.now) c.own_place-found.result c.own_place-found.ensures _ _ c.record_at-r.result (yes tt) c.in-Own.is c.record_at-r.ensures.0 (sym (ap verdict_of c.in-Accepted.is) ∙ c.match_req-verdict.ensures)))
+    (sym (join_verdict a.words.now a.sums.now a.spread.now a.car a.run (first_id (edition_in a.words.now) a.octets.now) (second_id (edition_in a.words.now) a.octets.now) c.own_place.result c.own_place.ensures _ _ c.record_at-r.result (yes tt) c.in-Some.is c.record_at-r.ensures.0 (sym (ap verdict_of c.in-Ok.is) ∙ c.match_req.ensures)))
     (comes_joined a.words.now a.sums.now a.spread.now a.out.now _ _ c.confirm.result a.car a.run a.octets.now _ (config_joined a.words.now _ _ _ _ _ freed put) c.confirm.ensures _ _ _ _ c.pilot_of-pilot.ensures c.clock_of-clock.ensures freed put)

@@ -7,4 +7,4 @@ use borrow.Author.Rules.{rules}
 use Rattle.words.proofs.copies.groups_at.Goals as goal
 
 pub returns : goal.returns
-returns c = groups_read c.args.spread.now _ _ c.args.at (c.args.at + group_count - c.args.at) (omega arith) c.requires (search rules) c.copy.ensures
+returns c = groups_read c.args.spread.now _ _ c.args.at (c.args.at + group_count - c.args.at) (omega arith) (omega arith) (search rules) c.copy.ensures

@@ -15,7 +15,7 @@ loop-i-init c = record { turns = search rules; size = search rules; done = searc
 pub loop-i-preserved : goal.loop-i-preserved
 loop-i-preserved c =
     let a = c.args in
-    changed_next _ a.sums.now a.at group_count c.loop-i.r c.loop-i.i _ c.loop-i.invariant (omega arith) (omega arith) c.at_most_sum.ensures
+    changed_next _ a.sums.now a.at group_count c.loop-i.r c.loop-i.i _ c.loop-i.invariant (omega arith) (omega arith) (omega (arith, c.min.ensures))
 
 pub returns : goal.returns
 returns c =

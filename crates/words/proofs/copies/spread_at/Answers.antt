@@ -3,4 +3,4 @@ use Rattle.words.proofs.CopyLaws.{spread_read}
 use Rattle.words.proofs.copies.spread_at.Goals as goal
 
 pub returns : goal.returns
-returns c = let a = c.args in spread_read a.spread.now a.at _ c.groups_at-least.ensures c.groups_at-greatest.ensures
+returns c = let a = c.args in spread_read a.spread.now a.at _ c.groups_at.ensures c.groups_at-2.ensures

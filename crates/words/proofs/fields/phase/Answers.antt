@@ -4,6 +4,7 @@ use Rattle.rules.specs.declared.Phase.TheVariants.{Asked, Sounding, Reported, Aw
 use Rattle.ends.specs.Words.{time_within}
 use Rattle.words.proofs.PhaseLaws.{no_phase}
 use Rattle.words.specs.Words.{phase_of}
+use native.Mathlib.Omega.{arith}
 use Rattle.words.proofs.fields.phase.Goals as goal
 
 pub returns-in-1 : goal.returns-in-1
@@ -35,4 +36,4 @@ unfolding phase_of
 returns-in-7 c = rw c.in-7.is (ap Success c.time-in-7.ensures)
 
 pub returns-in_default : goal.returns-in_default
-returns-in_default c = ap Asked c.time-in_default.ensures ∙ no_phase _ _ _ _ _ c.in_default.in_default-own.rest.0.0.0.0.0.0.1 c.in_default.in_default-own.rest.0.0.0.0.0.1 c.in_default.in_default-own.rest.0.0.0.0.1 c.in_default.in_default-own.rest.0.0.0.1 c.in_default.in_default-own.rest.0.0.1 c.in_default.in_default-own.rest.0.1 c.in_default.in_default-own.rest.1
+returns-in_default c = ap Asked c.time-in_default.ensures ∙ no_phase _ _ _ _ _ (omega arith) (omega arith) (omega arith) (omega arith) (omega arith) (omega arith) (omega arith)

@@ -3,9 +3,8 @@ use Prim.Native.Nat.{◌-◌, min}
 use mathlib.Core.Path.{sym, ap, ◌∙◌}
 use native.Mathlib.Omega.{arith}
 use Rattle.rules.proofs.TryLaws.{some_sounds}
-use Rattle.words.proofs.PhaseLaws.{as_reported}
-use Rattle.words.specs.Words.{some_of, profiles_of}
-use borrow.Enum.Refused.{opened}
+use Rattle.words.specs.Words.{profiles_of}
+use borrow.Author.Rules.{rules}
 use Rattle.words.proofs.fields.profiles.Goals as goal
 
 pub overflow_sub-most : goal.overflow_sub-most
@@ -22,6 +21,5 @@ returns-in-Sounding c =
     c.at_most_count.ensures ∙ ap (λ m. min (m - 1) a.word) c.sounds-most.ensures ∙ sym (ap (λ q. profiles_of a.edition a.later q a.word) c.in-Sounding.is)
 
 pub returns-in_default : goal.returns-in_default
-returns-in_default c =
-    let a = c.args in
-    c.some.ensures ∙ ap (λ m. some_of m a.word) c.sounds-most.ensures ∙ as_reported a.edition a.later a.phase a.word (opened c.in_default.in_default-own.keys3)
+unfolding profiles_of
+returns-in_default c = search rules

@@ -3,6 +3,7 @@ use Rattle.rules.specs.declared.State.TheVariants.{Matching, Joining}
 use Rattle.words.specs.Words.{state_by}
 use borrow.Author.Tests.{ne_eqb}
 use mathlib.Core.Path.{ap}
+use native.Mathlib.Omega.{arith}
 use Rattle.words.proofs.fields.state.Goals as goal
 
 pub returns-in-1 : goal.returns-in-1
@@ -19,4 +20,4 @@ returns-in-3 c = rw c.in-3.is
 
 pub returns-in_default : goal.returns-in_default
 unfolding state_by
-returns-in_default c = rw (ne_eqb _ 1 c.in_default.in_default-own.rest.0.0.1, ne_eqb _ 2 c.in_default.in_default-own.rest.0.1, ne_eqb _ 3 c.in_default.in_default-own.rest.1)
+returns-in_default c = rw (ne_eqb c.args.number 1 (omega arith), ne_eqb c.args.number 2 (omega arith), ne_eqb c.args.number 3 (omega arith))

@@ -8,4 +8,4 @@ use Rattle.words.proofs.one_record.car_at.Goals as goal
 pub returns : goal.returns
 returns c =
     let a = c.args in
-    λ s x. sym (ap (λ (n : ℕ). let x : CarAddress = record { 0 = n } in x) (car_at a.words.now s x a.i _ c.requires.0))
+    λ s x. sym (ap (λ (n : ℕ). let x : CarAddress = record { 0 = n } in x) (car_at a.words.now s x a.i _ c.requires))

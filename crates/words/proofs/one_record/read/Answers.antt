@@ -5,27 +5,20 @@ use Rattle.messages.specs.Table.{group_count}
 use Rattle.words.proofs.RecordWords.{read_is}
 use Rattle.words.specs.Words.{sums_of}
 use mathlib.Core.Path.{refl, ap, ◌∙◌}
-use native.Mathlib.Omega.{arith}
 use Rattle.words.proofs.one_record.read.Goals as goal
-
-pub sums_at-own-requires : goal.sums_at-own-requires
-sums_at-own-requires c = omega (arith, c.requires.0, c.requires.1.1.0)
-
-pub spread_at-values-requires : goal.spread_at-values-requires
-spread_at-values-requires c = omega (arith, c.requires.0, c.requires.1.1.1)
 
 pub returns : goal.returns
 returns c =
     let a = c.args in
-    read_is a.words.now a.sums.now a.spread.now a.i _ c.requires.0 _ _
-    c.edition-edition.ensures
-    (c.is_held-held.ensures a.sums.now a.spread.now)
-    (c.car_at-car.ensures a.sums.now a.spread.now)
+    read_is a.words.now a.sums.now a.spread.now a.i _ c.requires _ _
+    c.edition_of-edition.ensures
+    (c.is_held.ensures a.sums.now a.spread.now)
+    (c.car_at.ensures a.sums.now a.spread.now)
     refl
     c.later-later.ensures
     c.phase-phase.ensures
-    c.heard-heard.ensures
+    c.heard.ensures
     c.profiles-profiles.ensures
     c.groups-groups.ensures
-    (c.sums_at-own.ensures ∙ ap (λ g. sums_of c.profiles-profiles.result g (part a.sums.now (group_count * a.i) group_count)) c.groups_in.ensures)
-    c.spread_at-values.ensures
+    (c.sums_at.ensures ∙ ap (λ g. sums_of c.profiles-profiles.result g (part a.sums.now (group_count * a.i) group_count)) c.groups_in.ensures)
+    c.spread_at.ensures

@@ -1,20 +1,15 @@
--- `words::search::any_validates` meets its contract: the loop passes the records that are not ready or counting.
-use Rattle.words.proofs.SearchLaws.{unvalidated_start, unvalidated_here, unvalidated_next, unvalidated_end}
-use native.Mathlib.Omega.{arith}
+-- `words::search::any_validates` meets its contract: each place is asked.
+use Rattle.std.proofs.Common.{rules, tests, refl, sym, ap, ◌∙◌}
+use Rattle.std.proofs.lemmas.Iterator.{YieldsList-from_range}
+use Rattle.std.proofs.lemmas.Iterator.Search.{any_from_yields_List}
+use Rattle.rules.specs.Validation.{is_validating, any_validates}
+use Rattle.std.specs.List.{range_with_len}
+use Rattle.rules.specs.Constants.{record_count}
+use Rattle.words.proofs.SearchLaws.{at, by_place, any_by_place}
 use Rattle.words.proofs.search.any_validates.Goals as goal
 
-pub loop-i-init : goal.loop-i-init
-loop-i-init c = unvalidated_start _
-
-pub returns-then-is_validating : goal.returns-then-is_validating
-returns-then-is_validating c =
-    let a = c.args in
-    unvalidated_here a.words.now c.loop-i.i c.loop-i.invariant (omega arith) _ c.is_validating.ensures c.if-is_validating.true
-
-pub loop-i-preserved : goal.loop-i-preserved
-loop-i-preserved c =
-    let a = c.args in
-    unvalidated_next a.words.now c.loop-i.i c.loop-i.invariant (omega arith) _ c.is_validating.ensures c.if-is_validating.false
-
 pub returns : goal.returns
-returns c = unvalidated_end _ _ c.loop-i.invariant c.loop-i-test.false
+returns c = λ s x.
+    any_from_yields_List (λ i. is_validating (at c.args.words.now s x i)) _ _ _ c.any.ensures.ran (YieldsList-from_range 0 record_count record_count refl refl) (λ i b q k. search (rules, tests))
+    ∙ any_by_place (at c.args.words.now s x) (range_with_len 0 record_count)
+    ∙ sym (ap any_validates (by_place c.args.words.now s x))

@@ -1,20 +1,18 @@
--- `words::search::find` meets its contract: the loop looks for the first own record, and keeps the first free place.
-use Rattle.words.proofs.SearchLaws.{seeking_start, seeking_own, seeking_next, seeking_end}
-use native.Mathlib.Omega.{arith}
+-- By the two searches.
+use Rattle.std.proofs.Common.{ℕ, sym, ap, ap₂, ◌∙◌}
+use Rattle.std.specs.Prelude.{Option}
+use Rattle.records.specs.Places.{free_place, or_free, place_of}
+use Rattle.words.specs.Words.{records_of}
 use Rattle.words.proofs.search.find.Goals as goal
 
-pub loop-i-init : goal.loop-i-init
-loop-i-init c = seeking_start _ _
+pub returns-in-Some : goal.returns-in-Some
+unfolding place_of
+returns-in-Some c = λ s x. ap (λ (p : Option ℕ). or_free p (free_place (records_of c.args.words.now s x))) (c.in-Some.ensures s x)
 
-pub loop-i-preserved : goal.loop-i-preserved
-loop-i-preserved c =
-    let a = c.args in
-    seeking_next a.car a.words.now c.loop-i.i c.loop-i.free c.loop-i.invariant (omega arith) _ _ c.is_held-held.ensures c.car_at-owner.ensures _ c.if-held-car.false c.or_free-free.ensures
+pub returns-in-Some-free_place : goal.returns-in-Some-free_place
+unfolding place_of
+returns-in-Some-free_place c = λ s x. ap₂ or_free (sym c.in_default.is ∙ c.own_place.ensures s x) (c.in-Some-free_place.ensures s x)
 
-pub returns-then-i-ge-RECORDS : goal.returns-then-i-ge-RECORDS
-returns-then-i-ge-RECORDS c = seeking_end _ _ _ _ c.loop-i.invariant c.if-i-ge-RECORDS.true
-
-pub returns-then-held-car : goal.returns-then-held-car
-returns-then-held-car c =
-    let a = c.args in
-    seeking_own a.car a.words.now c.loop-i.i c.loop-i.free c.loop-i.invariant (omega arith) _ _ c.is_held-held.ensures c.car_at-owner.ensures c.if-held-car.true
+pub returns-in-None : goal.returns-in-None
+unfolding place_of
+returns-in-None c = λ s x. ap₂ or_free (sym c.in_default.is ∙ c.own_place.ensures s x) (c.in-None.ensures s x)

@@ -1,20 +1,15 @@
--- `words::search::own_place` meets its contract: the loop passes the records that are not the car's own.
-use Rattle.words.proofs.SearchLaws.{passing_start, passing_own, passing_next, passing_end}
-use native.Mathlib.Omega.{arith}
+-- Each place is asked.
+use Rattle.std.proofs.Common.{rules, tests, refl, sym, ap, ◌∙◌}
+use Rattle.std.proofs.lemmas.Iterator.{YieldsList-from_range}
+use Rattle.std.proofs.lemmas.Iterator.Search.{find_from_yields_List}
+use Rattle.rules.specs.Records.{holds}
+use Rattle.records.specs.Places.{own_place}
+use Rattle.rules.specs.Constants.{record_count}
+use Rattle.words.proofs.SearchLaws.{at, by_place, place_as, place_by_place}
 use Rattle.words.proofs.search.own_place.Goals as goal
 
-pub loop-i-init : goal.loop-i-init
-loop-i-init c = passing_start _ _
-
-pub loop-i-preserved : goal.loop-i-preserved
-loop-i-preserved c =
-    let a = c.args in
-    passing_next a.car a.words.now c.loop-i.i c.loop-i.invariant (omega arith) _ c.is_own.ensures c.if-is_own.false
-
-pub returns-then-i-ge-RECORDS : goal.returns-then-i-ge-RECORDS
-returns-then-i-ge-RECORDS c = passing_end _ _ _ c.loop-i.invariant c.if-i-ge-RECORDS.true
-
-pub returns-then-is_own : goal.returns-then-is_own
-returns-then-is_own c =
-    let a = c.args in
-    passing_own a.car a.words.now c.loop-i.i c.loop-i.invariant (omega arith) _ c.is_own.ensures c.if-is_own.true
+pub returns : goal.returns
+returns c = λ s x.
+    place_as c.find.result _ (find_from_yields_List (λ i. holds c.args.car (at c.args.words.now s x i)) _ _ c.find.result c.find.ensures.ran (YieldsList-from_range 0 record_count record_count refl refl) (λ i b q k. search (rules, tests)))
+    ∙ place_by_place (holds c.args.car) (at c.args.words.now s x) record_count
+    ∙ sym (ap (own_place c.args.car) (by_place c.args.words.now s x))

@@ -5,7 +5,7 @@ use native.Mathlib.Omega.{arith}
 use Rattle.words.proofs.whole.read_all.Goals as goal
 
 pub loop-i-init : goal.loop-i-init
-loop-i-init c = record { turns = search rules; size = search rules; done = search rules }
+loop-i-init c = record { size = search rules; done = search rules }
 
 pub loop-i-preserved : goal.loop-i-preserved
 loop-i-preserved c =

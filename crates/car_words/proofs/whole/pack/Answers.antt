@@ -1,9 +1,0 @@
--- `car_words::whole::pack` meets its contract: the head and the reports are stored.
-use Rattle.car_words.proofs.HeadWords.{packed}
-use native.Mathlib.Omega.{arith}
-use Rattle.car_words.proofs.whole.pack.Goals as goal
-
-pub returns : goal.returns
-returns c =
-    let p = c.put.ensures in
-    packed c.args.car c.args.words.now _ _ c.requires.0 p.1.0 p.1.1 (omega arith) p.0 c.store.ensures
