@@ -7,7 +7,9 @@ use borrow.Rule.Slice.PartMut.{put_mid}
 use lib.ListN.{length, take, drop, length-append}
 use Rattle.octets.specs.Octets.{splice}
 use Rattle.messages.specs.Reading.{Checked, no, yes}
-use Rattle.ends.specs.declared.Answer.{Answer}
+use Rattle.std.specs.Prelude.{Result}
+use Rattle.messages.specs.declared.Refusal.{Refusal}
+use Rattle.ends.specs.declared.Done.{Done}
 use Rattle.ends.specs.Answers.{Summary, answer_of, summary, indication_number}
 use Rattle.ends.specs.Lists.{joins}
 use Rattle.ends.specs.Outcomes.{Outcome, frames_of, joined}
@@ -27,20 +29,8 @@ use Rattle.car_rules.specs.declared.Stepped as car_stepped
 use Rattle.script.specs.Events.{most_octets}
 use Rattle.script.specs.Replies.{reply_octets, longest_reply, call_reply}
 use Rattle.script.specs.Ends.{CarriedOut}
-use Rattle.script.specs.Private.{Ready, RoomReady, Stays, head_of, frame_octets, Fits, Answered, Replied}
+use Rattle.script.specs.Private.{RoomReady, head_of, frame_octets, Fits, Answered}
 use Rattle.script.proofs.OutputLaws.{length_head, splice_front, part_length, splice_part, splice_none}
-
--- ---- an event that is no call
-
-module _ {S : Type 0} {Kept : S → Type 0} {s : S} (kept : Kept s) where
-  -- no event
-  pub nothing_done : {t : S} {n : ℕ} {out : List ℕ} → Stays s t n → CarriedOut Kept s [] out out t n
-  unfolding splice
-  nothing_done h = record { left = h.left; octets = h.octets; output = refl; kept = subst Kept (sym h.left) kept }
-
-  -- a query, whose reply ws is vs in other words
-  pub asked : {n : ℕ} {ws vs entry exit : List ℕ} → ws ≡ vs → Replied ws entry exit n → CarriedOut Kept s vs entry exit s n
-  asked {entry = entry} e h = record { left = refl; octets = h.octets ∙ ap length e; output = h.output ∙ ap (λ (l : List ℕ). splice 0 l entry) e; kept = kept }
 
 -- ---- a call's reply
 
@@ -62,7 +52,7 @@ frames_length (yes x) = refl
 -- ---- a call
 
 -- what a call gives that is lent an output: it leaves s, and a is the answer to its outcome y
-pub record Gives {S : Type 0} (Kept : S → Type 0) (last : S) (y : Outcome) (entry exit : List ℕ) (s : S) (a : Answer) : Type 0 where
+pub record Gives {S : Type 0} (Kept : S → Type 0) (last : S) (y : Outcome) (entry exit : List ℕ) (s : S) (a : Result Done Refusal) : Type 0 where
   pub left : s ≡ last
   pub answer : answer_of a ≡ summary y
   pub octets : exit ≡ splice 0 (joined (frames_of y)) entry
@@ -76,10 +66,10 @@ pub of_car : {c : Car} {x : car_calls.Call} {entry exit : List ℕ} {t : car_ste
 of_car h = record { left = h.car; answer = h.answer; octets = h.octets; kept = h.kept }
 
 -- what changes no station
-pub of_said : {s : Station} {y : Outcome} {entry exit : List ℕ} {a : Answer} → station_kept.Invariant s → Says y entry exit a → Gives station_kept.Invariant s y entry exit s a
+pub of_said : {s : Station} {y : Outcome} {entry exit : List ℕ} {a : Result Done Refusal} → station_kept.Invariant s → Says y entry exit a → Gives station_kept.Invariant s y entry exit s a
 of_said k h = record { left = refl; answer = h.answer; octets = h.octets; kept = k }
 
-module _ {S : Type 0} {Kept : S → Type 0} {last t : S} {y : Outcome} {part back : List ℕ} {a : Answer} (g : Gives Kept last y part back t a) where
+module _ {S : Type 0} {Kept : S → Type 0} {last t : S} {y : Outcome} {part back : List ℕ} {a : Result Done Refusal} (g : Gives Kept last y part back t a) where
   -- the frames fit in the part that was lent
   frames_fit : length back ≡ length part → length (joined (frames_of y)) ≤ length part
   unfolding splice
@@ -109,15 +99,16 @@ module _ {S : Type 0} {Kept : S → Type 0} {last t : S} {y : Outcome} {part bac
     kept = subst Kept (sym e) g.kept;
   }
 
--- a call that is lent no output
-module _ {S : Type 0} {Kept : S → Type 0} {K : Type 0} {last t : S} {y : Outcome} {d : List ℕ} {a : Answer} (r : Ready K d) (g : Gives Kept last y [] [] t a) where
-  -- its reply fits
-  pub alone_fits : Fits (answer_of a) d
-  alone_fits = fits g refl (omega arith) r.output
+-- a call that is lent no output leaves one as it is
+module _ {S : Type 0} {Kept : S → Type 0} {last t : S} {y : Outcome} {a : Result Done Refusal} (d : List ℕ) (g : Gives Kept last y [] [] t a) where
+  none_put : d ≡ splice 0 (joined (frames_of y)) d
+  none_put = splice_none d (joined (frames_of y)) 0 (let z : length (joined (frames_of y)) ≡ 0 = omega (arith, frames_fit g refl) in z)
 
-  -- its reply is the first octets alone
-  pub alone : {exit : List ℕ} {s : S} {n : ℕ} → (s ≡ t) × Answered (answer_of a) d exit n → CarriedOut Kept last (call_reply y) d exit s n
-  alone = replied g r.output (splice_none d (joined (frames_of y)) reply_octets (let z : length (joined (frames_of y)) ≡ 0 = omega (arith, frames_fit g refl) in z))
+pub station_alone : {s : Station} {x : station_calls.Call} {d : List ℕ} {t : station_stepped.Stepped} → station.Answers s x [] [] t → station.Answers s x d d t
+station_alone {d = d} h = record { station = h.station; answer = h.answer; octets = none_put d (of_station h); kept = h.kept }
+
+pub car_alone : {c : Car} {x : car_calls.Call} {d : List ℕ} {t : car_stepped.Stepped} → car.Answers c x [] [] t → car.Answers c x d d t
+car_alone {d = d} h = record { car = h.car; answer = h.answer; octets = none_put d (of_car h); kept = h.kept }
 
 -- the part of an output behind a reply's first octets that a room lends
 abbrev pub behind : ℕ → List ℕ → List ℕ
@@ -128,7 +119,7 @@ pub behind_length : {K : Type 0} {room : ℕ} {d : List ℕ} → RoomReady K roo
 behind_length {room = room} {d = d} r = part_length d reply_octets (reply_octets + room - reply_octets) (omega arith) ∙ omega arith
 
 -- a call that is lent that part
-module _ {S : Type 0} {Kept : S → Type 0} {K : Type 0} {last t : S} {y : Outcome} {room : ℕ} {d back : List ℕ} {a : Answer} (r : RoomReady K room d) (g : Gives Kept last y (behind room d) back t a) (same : length back ≡ length (behind room d)) where
+module _ {S : Type 0} {Kept : S → Type 0} {K : Type 0} {last t : S} {y : Outcome} {room : ℕ} {d back : List ℕ} {a : Result Done Refusal} (r : RoomReady K room d) (g : Gives Kept last y (behind room d) back t a) (same : length back ≡ length (behind room d)) where
   -- its reply fits
   pub lent_fits : {mid : List ℕ} → longest_reply ≤ length mid → Fits (answer_of a) mid
   lent_fits = fits g same (omega (arith, behind_length r))

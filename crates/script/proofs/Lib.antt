@@ -4,3 +4,4 @@ pub mod CallLaws
 pub mod EventLaws
 pub mod LevelLaws
 pub mod ReductionLaws
+pub mod MeaningLaws

@@ -1,34 +1,26 @@
 -- Replies, from what the functions write one behind the other.
 use Prim.Native.Nat.{ℕ, ◌+◌, ◌*◌, ◌≤◌}
 use mathlib.Core.Path.{◌≡◌, refl, sym, ap, ap₂, ◌∙◌}
-use mathlib.Core.List.{List, [], ◌++◌, append-nil}
+use mathlib.Core.List.{List, ◌++◌}
 use native.Mathlib.Omega.{arith}
 use lib.ListN.{length, length-append}
 use lib.Seq.{sets, take_all}
 use Rattle.octets.specs.Octets.{bytes, low_bytes, part, splice}
 use Rattle.octets.proofs.OctetLaws.{length_low, sets_append}
-use Rattle.messages.specs.Answers.{number_of}
-use Rattle.messages.specs.Reading.{Checked, no, yes}
+use Rattle.messages.specs.Reading.{no}
 use Rattle.messages.specs.Table.{group_count}
-use Rattle.messages.specs.declared.Refusal.{Refusal}
-use Rattle.rules.specs.declared.HeardAnswer.TheVariants.{Refused, Heard}
-use Rattle.rules.specs.declared.Queried.{Queried}
-use Rattle.rules.specs.Rules.{Told, Inspected}
-use Rattle.rules.specs.Answers.{Tells}
+use Rattle.rules.specs.declared.Heard.{Heard}
+use Rattle.rules.specs.declared.Inspected.{Inspected}
 use Rattle.car_rules.specs.declared.Key.{Key}
 use Rattle.script.specs.Events.{most_octets}
-use Rattle.script.specs.Replies.{number, reply_octets, longest_reply, reply_head, reply_with, told_octets, inspected_octets, key_octets}
-use Rattle.script.specs.Private.{Answered, told_by, Replied}
+use Rattle.script.specs.Replies.{number, reply_octets, longest_reply, reply_head, reply_with, key_octets}
+use Rattle.script.specs.Private.{Answered, heard_octets, state_octets, Replied}
 use Rattle.script.proofs.OutputLaws.{length_head, put_behind}
 
 module _ (n : ℕ) {k : ℕ} {entry exit : List ℕ} (h : Replied (reply_head n 0 0) entry exit k) where
   -- a refusal is the answer to a call
   pub refused_answered : Answered (no n) entry exit k
   refused_answered = record { octets = h.octets ∙ length_head n 0 0; output = h.output }
-
-  -- or to a query
-  pub refused_replied : Replied (reply_with n 0 []) entry exit k
-  refused_replied = rw append-nil h
 
 -- the octets of a query's answer, behind the first ones
 pub told_replied : (ws : List ℕ) {k : ℕ} {entry mid exit : List ℕ} → length ws ≡ k → k ≤ most_octets → longest_reply ≤ length entry → mid ≡ splice 0 (reply_head 0 0 k) entry → exit ≡ sets mid reply_octets ws → Replied (reply_with 0 0 ws) entry exit (reply_octets + k)
@@ -43,24 +35,11 @@ told_replied ws {k} {entry} e few long m h =
           ∙ ap (λ (l : List ℕ). splice 0 l entry) whole;
     }
 
--- what the service query promises is what its answer tells
-pub told_by_lem : (x : Checked Told) (q : Queried) → Tells x q → told_by q ≡ x
-told_by_lem (no n) q h = rw h.heard
-told_by_lem (yes t) q h = rw (h.heard, h.spread)
-
--- what the service query's answer tells, by its cases
-module _ (q : Queried) where
-  pub told_refused : (x : Refusal) → q.heard ≡ Refused x → told_by q ≡ no (number_of x)
-  told_refused x e = rw e
-
-  pub told_heard : (n : ℕ) → q.heard ≡ Heard n → told_by q ≡ yes (record { sounds = n; spread = q.spread })
-  told_heard n e = rw e
-
 -- what the service query tells, where each group has its values
-module _ (t : Told) (least : length t.spread.least ≡ group_count) (greatest : length t.spread.greatest ≡ group_count) where
+module _ (t : Heard) (least : length t.spread.least ≡ group_count) (greatest : length t.spread.greatest ≡ group_count) where
   -- one run behind the other
   pub told_put : (d : List ℕ)
-      → sets (sets (sets d reply_octets (number t.sounds)) (reply_octets + 4) (part t.spread.least 0 group_count)) (reply_octets + 4 + group_count) (part t.spread.greatest 0 group_count) ≡ sets d reply_octets (told_octets t)
+      → sets (sets (sets d reply_octets (number t.sounds)) (reply_octets + 4) (part t.spread.least 0 group_count)) (reply_octets + 4 + group_count) (part t.spread.greatest 0 group_count) ≡ sets d reply_octets (heard_octets t)
   told_put d =
       let sounds : List ℕ = sets d reply_octets (number t.sounds) in
       let whole : (l : List ℕ) → length l ≡ group_count → part l 0 group_count ≡ l = λ l e. take_all group_count l (omega arith) in
@@ -70,18 +49,18 @@ module _ (t : Told) (least : length t.spread.least ≡ group_count) (greatest : 
       ∙ ap (λ (k : ℕ). sets sounds (reply_octets + k) (t.spread.least ++ t.spread.greatest)) (sym (length_low 4 t.sounds))
       ∙ sym (sets_append (number t.sounds) (t.spread.least ++ t.spread.greatest) d reply_octets)
 
-  pub told_length : length (told_octets t) ≡ 4 + 2 * group_count
+  pub told_length : length (heard_octets t) ≡ 4 + 2 * group_count
   told_length =
       length-append (number t.sounds) (t.spread.least ++ t.spread.greatest)
       ∙ ap₂ (λ (i j : ℕ). i + j) (length_low 4 t.sounds) (length-append t.spread.least t.spread.greatest ∙ ap₂ (λ (i j : ℕ). i + j) least greatest)
 
 -- what the inspection tells, one number behind the other
 module _ (x : Inspected) where
-  pub inspected_put : (d : List ℕ) → sets (sets d reply_octets (number x.state)) (reply_octets + 4) (bytes 6 x.car.0) ≡ sets d reply_octets (inspected_octets x)
+  pub inspected_put : (d : List ℕ) → sets (sets d reply_octets (number x.state)) (reply_octets + 4) (bytes 6 x.car.0) ≡ sets d reply_octets (state_octets x)
   unfolding bytes low_bytes
   inspected_put d = refl
 
-  pub inspected_length : length (inspected_octets x) ≡ 10
+  pub inspected_length : length (state_octets x) ≡ 10
   unfolding bytes low_bytes
   inspected_length = refl
 

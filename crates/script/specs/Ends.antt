@@ -1,8 +1,11 @@
 -- What starting a script and carrying an event out leave at either end, of a station or of a car.
 use Rattle.std.specs.Prelude.{ℕ, ◌≡◌, cond, ◌&&◌, List, [], leb, length, get_or}
+use Rattle.std.specs.Prelude as std
+use Rattle.std.specs.Prelude.{Some, None}
 use Rattle.std.proofs.Math.Option.{Option, none, some}
 use Rattle.octets.specs.Octets.{splice}
 use Rattle.ends.specs.Outcomes.{Outcome}
+use Rattle.script.specs.declared.Happened.{Happened}
 use Rattle.script.specs.Events.{Event, call, query, most_octets, event_in}
 use Rattle.script.specs.Replies.{number, longest_reply, refusal_number}
 
@@ -40,3 +43,11 @@ pub record CarriedOut {S : Type 0} (Kept : S → Type 0) (last : S) (reply entry
   pub octets : n ≡ length reply
   pub output : exit ≡ splice 0 reply entry
   pub kept : Kept s
+
+module _ {S A : Type 0} (Kept : S → Type 0) where
+  -- the whole promise of an event or none, which leaves `last` and has a reply: what is no event is not carried out, and leaves the output as it was
+  abbrev pub HappensAs : Option A → (last : S) → (reply entry exit : List ℕ) → std.Option (Happened S) → Type 0
+  HappensAs none last reply entry exit None = exit ≡ entry
+  HappensAs none last reply entry exit (Some h) = ⊥
+  HappensAs (some x) last reply entry exit None = ⊥
+  HappensAs (some x) last reply entry exit (Some h) = CarriedOut Kept last reply entry exit h.left h.octets

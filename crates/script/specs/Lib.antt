@@ -2,7 +2,9 @@ pub mod Events
 pub mod Replies
 pub mod Ends
 pub mod Layout
+pub mod Meaning
 pub mod Promises
 pub mod CarLayout
+pub mod CarMeaning
 pub mod CarPromises
 pub mod Private

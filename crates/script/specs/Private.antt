@@ -1,19 +1,22 @@
 -- What the contracts of private functions cite, and no public one.
-use Rattle.std.specs.Prelude.{ℕ, ◌+◌, ◌/◌, ◌≤◌, ◌≡◌, List, length}
+use Rattle.std.specs.Prelude.{ℕ, ◌+◌, ◌≤◌, ◌≡◌, true, false, List, length, Option, Some, None}
 use Rattle.octets.specs.Octets.{splice}
 use Rattle.messages.specs.Reading.{Checked, no, yes}
 use Rattle.ends.specs.Answers.{Summary, indication_number}
-use Rattle.ends.specs.Outcomes.{and_then}
-use Rattle.rules.specs.declared.Queried.{Queried}
-use Rattle.rules.specs.Rules.{Told}
-use Rattle.rules.specs.Answers.{heard_of}
+use Rattle.rules.specs.declared.Heard.{Heard}
+use Rattle.rules.specs.declared.Inspected.{Inspected}
 use Rattle.script.specs.declared.events.EventHead.{EventHead}
-use Rattle.script.specs.Events.{most_octets, kind_in, reading_in, room_in}
-use Rattle.script.specs.Replies.{reply_octets, longest_reply, reply_head}
+use Rattle.script.specs.Events.{most_octets, kind_in, reading_in, room_in, is_sized}
+use Rattle.script.specs.Replies.{reply_octets, longest_reply, reply_head, told_octets, inspected_octets}
 
 -- an event's kind, reading and room
 abbrev pub event_head : List ℕ → EventHead
 event_head e = record { kind = kind_in e; reading = reading_in e; room = room_in e }
+
+-- what an event's first octets tell, where the event has as many octets as it tells
+abbrev pub Heads : List ℕ → Option EventHead → Type 0
+Heads e None = is_sized e ≡ false
+Heads e (Some h) = (is_sized e ≡ true) × (h ≡ event_head e)
 
 -- what holds of a station or a car, and an output that the longest reply fits
 pub record Ready (Kept : Type 0) (out : List ℕ) : Type 0 where
@@ -24,11 +27,6 @@ pub record Ready (Kept : Type 0) (out : List ℕ) : Type 0 where
 pub record RoomReady (Kept : Type 0) (n : ℕ) (out : List ℕ) : Type 0 where
   pub ready : Ready Kept out
   pub room : n ≤ most_octets
-
--- no event: s stays as it was, and there is no reply
-pub record Stays {S : Type 0} (s t : S) (n : ℕ) : Type 0 where
-  pub left : t ≡ s
-  pub octets : n ≡ 0
 
 -- the first octets of the reply to an answer
 abbrev pub head_of : Checked Summary → List ℕ
@@ -50,13 +48,13 @@ pub record Answered (x : Checked Summary) (entry exit : List ℕ) (n : ℕ) : Ty
   pub octets : n ≡ reply_octets + frame_octets x
   pub output : exit ≡ splice 0 (head_of x) entry
 
--- how many levels an event's octets hold at most
-abbrev pub most_levels : ℕ
-most_levels = most_octets / 2
+-- the octets of what the service query tells
+abbrev pub heard_octets : Heard → List ℕ
+heard_octets h = told_octets (record { sounds = h.sounds; spread = h.spread })
 
--- what the service query's answer tells
-abbrev pub told_by : Queried → Checked Told
-told_by q = and_then (heard_of q.heard) (λ (n : ℕ). yes (record { sounds = n; spread = q.spread }))
+-- and of what the inspection tells
+abbrev pub state_octets : Inspected → List ℕ
+state_octets i = inspected_octets (record { state = i.state; car = i.car })
 
 -- the whole reply ws stands in the output, and takes n octets
 pub record Replied (ws entry exit : List ℕ) (n : ℕ) : Type 0 where

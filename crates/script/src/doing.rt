@@ -1,171 +1,126 @@
-// Carrying an event out in an output that the longest reply fits; octets that are not as the event's kind asks do nothing.
-ghost use Rattle.std.specs.Prelude.{◌≡◌, eqb, length, get_or};
-ghost use Rattle.std.proofs.Math.Option.{none, some};
-ghost use Rattle.rules.specs.Calls as calls;
+// What a station's events are, and carrying one out in an output that the longest reply fits.
+// Reading, room and octets go one by one: `call_as` and `event_as` name each.
+ghost use Rattle.std.specs.Prelude.{◌≡◌, ℕ, get_or, length, IfSome};
+ghost use Rattle.std.proofs.Math.Option.{none};
+ghost use Rattle.rules.specs.Answers.{Answers};
 ghost use Rattle.rules.specs.Invariant.{Invariant};
-ghost use Rattle.ends.specs.Answers.{answer_of};
-ghost use Rattle.script.specs.Events.{call, query, given};
-ghost use Rattle.script.specs.Layout.{inspection, pilot_in, query_in, reduction_in, kinds};
-ghost use Rattle.script.specs.Promises.{Happens};
-ghost use Rattle.script.specs.Private.{Ready, RoomReady, Stays, Fits, Answered};
+ghost use Rattle.script.specs.Layout.{kinds, pilot_in, query_in};
+ghost use Rattle.script.specs.Meaning.{call_as, event_as, event_in, Fitting};
+ghost use Rattle.script.specs.Promises.{CarriesOut};
+ghost use Rattle.script.specs.Private.{RoomReady};
 
-use crate::events::EventHead;
 use crate::{Happened, REPLY_OCTETS, reductions, replies};
 use messages::CarAddress;
-use rules::{Station, Stepped};
+use rules::{Pilot, Station, Stepped};
 
-// An event that is not carried out.
-pub(crate) fn nothing(station: Station) -> Happened
-    ensures { Stays station result.station result.octets }
-{
-    Happened {
-        station: station,
-        octets: 0,
-    }
+// A call of the station.
+#[derive(Clone, Copy)]
+pub(crate) enum Call {
+    Frame,
+    Tick,
+    Pilot(Pilot),
+    Terminate,
+    LinkUp,
 }
 
-// The reply to a call whose frames, if any, stand in their place.
-fn reply(stepped: Stepped, out: &mut [u8]) -> Happened
-    requires { Fits (answer_of stepped.answer) out.old }
-    ensures { (result.station ≡ stepped.station) × Answered (answer_of stepped.answer) out.old out.new result.octets }
-{
-    let station = stepped.station;
-    let answer = stepped.answer;
-    let octets = replies::put_answer(out, answer);
-    Happened {
-        station: station,
-        octets: octets,
-    }
+// An event: a call, or what changes no station.
+#[derive(Clone, Copy)]
+pub(crate) enum Event {
+    Call(Call),
+    Query(CarAddress),
+    Reduction,
+    Inspection,
 }
 
-// A frame: the part of the output behind the reply's first octets is lent.
-fn frame(station: Station, octets: &[u8], room: usize, out: &mut [u8]) -> Happened
-    requires { RoomReady (Invariant station) room out.old }
-    ensures { Happens station (some (call (calls.frame octets.now room))) out.old out.new result }
-{
-    let end = REPLY_OCTETS + room;
-    let stepped = station::frame(station, octets, &mut out[REPLY_OCTETS..end]);
-    reply(stepped, out)
-}
-
-// A tick has no octets: the same part of the output is lent.
-fn tick(station: Station, reading: u32, room: usize, octets: &[u8], out: &mut [u8]) -> Happened
-    requires { RoomReady (Invariant station) room out.old }
-    ensures { Happens station (given (eqb (length octets.now) 0) (call (calls.tick reading room))) out.old out.new result }
-{
-    if octets.len() != 0 {
-        return nothing(station);
-    }
-    let end = REPLY_OCTETS + room;
-    let stepped = station::tick(station, reading, &mut out[REPLY_OCTETS..end]);
-    reply(stepped, out)
-}
-
-// A pilot event has one octet, the number of the pilot state.
-fn pilot(station: Station, reading: u32, octets: &[u8], out: &mut [u8]) -> Happened
-    requires { Ready (Invariant station) out.old }
-    ensures { Happens station (pilot_in reading octets.now) out.old out.new result }
+// A pilot event's octets: one, the number of the pilot state.
+fn pilot_in(octets: &[u8]) -> Option<Event>
+    ensures event { (t room : ℕ) → event_in t room octets.now result ≡ pilot_in t octets.now }
+    ensures fitting { IfSome result (Fitting octets.now) }
 {
     let n = octets::number_at(octets, 0, 1);
-    if !((octets.len() == 1) & (n < 6)) {
-        return nothing(station);
-    }
-    let stepped = station::pilot(station, rules::pilot_of(n), reading);
-    reply(stepped, out)
+    (octets.len() == 1 && n < 6).then_some(Event::Call(Call::Pilot(Pilot::from(n))))
 }
 
-// Terminate has no octets.
-fn terminate(station: Station, octets: &[u8], out: &mut [u8]) -> Happened
-    requires { Ready (Invariant station) out.old }
-    ensures { Happens station (given (eqb (length octets.now) 0) (call calls.terminate)) out.old out.new result }
+// A service query's octets: six, the car's address.
+fn query_in(octets: &[u8]) -> Option<Event>
+    ensures event { (t room : ℕ) → event_in t room octets.now result ≡ query_in octets.now }
+    ensures fitting { IfSome result (Fitting octets.now) }
 {
-    if octets.len() != 0 {
-        return nothing(station);
-    }
-    let stepped = station::terminate(station);
-    reply(stepped, out)
-}
-
-// Link up has no octets.
-fn link_up(station: Station, octets: &[u8], out: &mut [u8]) -> Happened
-    requires { Ready (Invariant station) out.old }
-    ensures { Happens station (given (eqb (length octets.now) 0) (call calls.link_up)) out.old out.new result }
-{
-    if octets.len() != 0 {
-        return nothing(station);
-    }
-    let stepped = station::link_up(station);
-    reply(stepped, out)
-}
-
-// A service query has six octets, the car's address.
-fn query(station: Station, octets: &[u8], out: &mut [u8]) -> Happened
-    requires { Ready (Invariant station) out.old }
-    ensures { Happens station (query_in octets.now) out.old out.new result }
-{
-    if octets.len() != 6 {
-        return nothing(station);
-    }
     let car = CarAddress(octets::number_at(octets, 0, 6));
-    let queried = rules::query(station, car);
-    let size = replies::put_told(out, queried);
-    Happened {
-        station: station,
-        octets: size,
-    }
+    (octets.len() == 6).then_some(Event::Query(car))
 }
 
-// A reduction has its values and our levels: the part of the output behind the reply's first octets is lent.
-fn reduction(station: Station, octets: &[u8], room: usize, out: &mut [u8]) -> Happened
-    requires { RoomReady (Invariant station) room out.old }
-    ensures { Happens station (reduction_in room octets.now) out.old out.new result }
+// The event of a kind, where its octets are as the kind asks; by its number, as a script has it: `Layout.kinds` has the kinds in this order.
+#[tactic(auto, using(crate::proofs::MeaningLaws::station_given), unfolding(crate::specs::Layout::kinds))]
+pub(crate) fn event_of(kind: u64, octets: &[u8]) -> Option<Event>
+    ensures event { (t room : ℕ) → event_in t room octets.now result ≡ get_or (kinds t room octets.now) kind none }
+    ensures fitting { IfSome result (Fitting octets.now) }
 {
-    if !reductions::is_reduction(octets) {
-        return nothing(station);
-    }
-    let end = REPLY_OCTETS + room;
-    let answer = reductions::reduce(octets, &mut out[REPLY_OCTETS..end]);
-    let stepped = Stepped {
-        station: station,
-        answer: answer,
-    };
-    reply(stepped, out)
-}
-
-// An inspection has no octets.
-fn inspection(station: Station, octets: &[u8], out: &mut [u8]) -> Happened
-    requires { Ready (Invariant station) out.old }
-    ensures { Happens station (given (eqb (length octets.now) 0) (query inspection)) out.old out.new result }
-{
-    if octets.len() != 0 {
-        return nothing(station);
-    }
-    let config = station.config;
-    let state = station.state;
-    let size = replies::put_inspected(out, rules::inspect(config, state));
-    Happened {
-        station: station,
-        octets: size,
-    }
-}
-
-// The event of a kind.
-pub(crate) fn of_kind(station: Station, head: EventHead, octets: &[u8], out: &mut [u8]) -> Happened
-    requires { RoomReady (Invariant station) head.room out.old }
-    ensures { Happens station (get_or (kinds head.reading head.room octets.now) head.kind none) out.old out.new result }
-{
-    let kind = head.kind;
-    let reading = head.reading;
-    let room = head.room;
+    let empty = octets.is_empty();
     match kind {
-        0 => frame(station, octets, room, out),
-        1 => tick(station, reading, room, octets, out),
-        2 => pilot(station, reading, octets, out),
-        3 => terminate(station, octets, out),
-        4 => link_up(station, octets, out),
-        5 => query(station, octets, out),
-        6 => reduction(station, octets, room, out),
-        7 => inspection(station, octets, out),
-        _ => nothing(station),
+        0 => Some(Event::Call(Call::Frame)),
+        1 => empty.then_some(Event::Call(Call::Tick)),
+        2 => pilot_in(octets),
+        3 => empty.then_some(Event::Call(Call::Terminate)),
+        4 => empty.then_some(Event::Call(Call::LinkUp)),
+        5 => query_in(octets),
+        6 => reductions::is_reduction(octets).then_some(Event::Reduction),
+        7 => empty.then_some(Event::Inspection),
+        _ => None,
+    }
+}
+
+// A call that is lent an output.
+#[tactic(auto, using(crate::proofs::CallLaws::station_alone))]
+fn step(station: Station, call: Call, reading: u32, octets: &[u8], lent: &mut [u8]) -> Stepped
+    requires { Invariant station }
+    ensures { Answers station (call_as reading (length lent.old) octets.now call) lent.old lent.new result }
+{
+    match call {
+        Call::Frame => station::frame(station, octets, lent),
+        Call::Tick => station::tick(station, reading, lent),
+        Call::Pilot(pilot) => station::pilot(station, pilot, reading),
+        Call::Terminate => station::terminate(station),
+        Call::LinkUp => station::link_up(station),
+    }
+}
+
+// Carries an event out: a call and a reduction are lent the part of the output behind the reply's first octets.
+pub(crate) fn carry_out(
+    station: Station,
+    event: Event,
+    reading: u32,
+    room: usize,
+    octets: &[u8],
+    out: &mut [u8],
+) -> Happened<Station>
+    requires ready { RoomReady (Invariant station) room out.old }
+    requires fitting { Fitting octets.now event }
+    ensures { CarriesOut station (event_as reading room octets.now event) out.old out.new result }
+{
+    let end = REPLY_OCTETS + room;
+    match event {
+        Event::Call(call) => {
+            let stepped = step(station, call, reading, octets, &mut out[REPLY_OCTETS..end]);
+            Happened {
+                left: stepped.station,
+                octets: replies::put_answer(out, stepped.answer),
+            }
+        }
+        Event::Reduction => {
+            let answer = reductions::reduce(octets, &mut out[REPLY_OCTETS..end]);
+            Happened {
+                left: station,
+                octets: replies::put_answer(out, answer),
+            }
+        }
+        Event::Query(car) => Happened {
+            left: station,
+            octets: replies::put_told(out, rules::query(station, car)),
+        },
+        Event::Inspection => Happened {
+            left: station,
+            octets: replies::put_told(out, rules::inspect(station.config, station.state)),
+        },
     }
 }

@@ -1,7 +1,7 @@
 // An event's first octets, of the station's script and of the car's.
 ghost use Rattle.std.specs.Prelude.{◌≡◌};
-ghost use Rattle.script.specs.Events.{is_sized};
-ghost use Rattle.script.specs.Private.{event_head};
+ghost use Rattle.octets.specs.Octets.{low_value};
+ghost use Rattle.script.specs.Private.{Heads};
 
 use crate::{EVENT_OCTETS, MOST_OCTETS};
 
@@ -13,22 +13,26 @@ pub(crate) struct EventHead {
     pub(crate) room: usize,
 }
 
-// Whether an event has as many octets as it tells, and neither they nor its room are too many.
-pub(crate) fn is_sized(event: &[u8]) -> bool
-    ensures { result ≡ is_sized event.now }
+// A number: four octets, low octet first.
+#[tactic(auto, using(octets::proofs::OctetLaws::low_lt))]
+pub(crate) fn number_at(octets: &[u8], at: usize) -> u32
+    ensures { result ≡ low_value octets.now at 4 }
 {
-    let room = octets::low_number_at(event, 8, 4) as usize;
-    let length = octets::low_number_at(event, 12, 4) as usize;
-    (room <= MOST_OCTETS) & (length <= MOST_OCTETS) & (event.len() == EVENT_OCTETS + length)
+    octets::low_number_at(octets, at, 4) as u32
 }
 
-// What an event's first octets tell.
-pub(crate) fn head_of(event: &[u8]) -> EventHead
-    ensures { result ≡ event_head event.now }
+// What an event's first octets tell, where it has as many octets as it tells, and neither they nor its room are too many.
+pub(crate) fn head_of(event: &[u8]) -> Option<EventHead>
+    ensures { Heads event.now result }
 {
-    EventHead {
-        kind: octets::low_number_at(event, 0, 4),
-        reading: octets::low_number_at(event, 4, 4) as u32,
-        room: octets::low_number_at(event, 8, 4) as usize,
-    }
+    let room = number_at(event, 8) as usize;
+    let length = number_at(event, 12) as usize;
+    let is_sized = room <= MOST_OCTETS
+        && length <= MOST_OCTETS
+        && event.len() == EVENT_OCTETS + length;
+    is_sized.then_some(EventHead {
+        kind: u64::from(number_at(event, 0)),
+        reading: number_at(event, 4),
+        room,
+    })
 }

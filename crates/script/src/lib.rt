@@ -4,19 +4,20 @@
 mod car_doing;
 mod doing;
 mod events;
-mod numbers;
 pub mod of_car;
 mod reductions;
 mod replies;
+pub mod scripted;
+mod told;
 
 ghost use Rattle.std.specs.Prelude.{◌≡◌, length};
 ghost use Rattle.rules.specs.Invariant.{Invariant};
 ghost use Rattle.script.specs.Ends.{carried_out_as, carried_out};
 ghost use Rattle.script.specs.Events.{length_in};
-ghost use Rattle.script.specs.Layout.{count_in, kinds};
+ghost use Rattle.script.specs.Layout.{is_head, count_in, kinds};
 ghost use Rattle.script.specs.Promises.{Starts, Happens};
 
-use events::EventHead;
+use events::number_at;
 use messages::{ModemAddress, Nid, Nmk, StationAddress};
 use rules::Station;
 
@@ -38,52 +39,46 @@ pub const LONGEST_REPLY: usize = REPLY_OCTETS + MOST_OCTETS;
 // A number's four octets.
 pub type NumberOctets = [u8; 4];
 
-// The station that a script starts with, the octets of configuring's answer, and whether the script goes on: a head that breaks
-// the layout has no answer.
+// The station or the car that a script starts with, and the octets of configuring's answer.
 #[derive(Clone, Copy)]
-pub struct Started {
-    pub station: Station,
+pub struct Started<S> {
+    pub first: S,
     pub answer: NumberOctets,
-    pub on: bool,
 }
 
-// The station after an event, and how many octets the reply takes: none where the event is not carried out.
+// What an event that is carried out leaves of a station or a car, and how many octets the reply takes.
 #[derive(Clone, Copy)]
-pub struct Happened {
-    pub station: Station,
+pub struct Happened<S> {
+    pub left: S,
     pub octets: usize,
 }
 
+// Whether a head keeps to the layout: one that breaks it has no answer.
+pub fn is_head(head: &[u8]) -> bool
+    ensures { result ≡ is_head head.now }
+{
+    number_at(head, 35) < 2 && number_at(head, 39) < 2
+}
+
 // Configures a station as the head says.
-pub fn start(head: &[u8]) -> Started
+pub fn start(head: &[u8]) -> Started<Station>
     ensures { Starts head.now result }
 {
-    let address = StationAddress(octets::number_at(head, 0, 6));
-    let modem = ModemAddress(octets::number_at(head, 6, 6));
-    let nid = Nid(octets::low_number_at(head, 12, 7));
-    let nmk = Nmk(
-        octets::number_at(head, 19, 8),
-        octets::number_at(head, 27, 8),
-    );
-    let exemption = octets::low_number_at(head, 35, 4);
-    let edition = octets::low_number_at(head, 39, 4);
-    let carriers = octets::low_number_at(head, 43, 4) as u32;
     let configured = rules::configure(
-        address,
-        modem,
-        nid,
-        nmk,
-        exemption == 1,
-        rules::edition_of(edition),
-        carriers,
+        StationAddress(octets::number_at(head, 0, 6)),
+        ModemAddress(octets::number_at(head, 6, 6)),
+        Nid(octets::low_number_at(head, 12, 7)),
+        Nmk(
+            octets::number_at(head, 19, 8),
+            octets::number_at(head, 27, 8),
+        ),
+        number_at(head, 35) == 1,
+        rules::edition_of(u64::from(number_at(head, 39))),
+        number_at(head, 43),
     );
-    let station = configured.station;
-    let answer = configured.answer;
-    let octets = numbers::octets_of(replies::refusal_of(answer) as u64);
     Started {
-        station: station,
-        answer: octets,
-        on: (exemption < 2) & (edition < 2),
+        first: configured.station,
+        answer: replies::answer_octets(configured.answer),
     }
 }
 
@@ -91,14 +86,14 @@ pub fn start(head: &[u8]) -> Started
 pub fn event_count(head: &[u8]) -> u64
     ensures { result ≡ count_in head.now }
 {
-    octets::low_number_at(head, 47, 4)
+    u64::from(number_at(head, 47))
 }
 
 // How many octets follow an event's first ones.
 pub fn event_length(event: &[u8]) -> u64
     ensures { result ≡ length_in event.now }
 {
-    octets::low_number_at(event, 12, 4)
+    u64::from(number_at(event, 12))
 }
 
 // Carries out the event of a kind with a reading, a room and octets: its reply stands from the output's first octet. An event that
@@ -110,37 +105,25 @@ pub fn carry_out(
     room: usize,
     octets: &[u8],
     out: &mut [u8],
-) -> Happened
+) -> Option<Happened<Station>>
     requires { Invariant station }
     ensures { Happens station (carried_out_as kinds kind reading room octets.now (length out.old)) out.old out.new result }
 {
-    if !((LONGEST_REPLY <= out.len()) & (room <= MOST_OCTETS)) {
-        return doing::nothing(station);
+    if !(LONGEST_REPLY <= out.len() && room <= MOST_OCTETS) {
+        return None;
     }
-    let head = EventHead {
-        kind: kind,
-        reading: reading,
-        room: room,
-    };
-    doing::of_kind(station, head, octets, out)
+    let event = doing::event_of(kind, octets)?;
+    Some(doing::carry_out(station, event, reading, room, octets, out))
 }
 
 // Carries an event out: its reply stands from the output's first octet. Octets that break the layout do nothing, and so does
 // an output that is shorter than the longest reply.
-pub fn event(station: Station, event: &[u8], out: &mut [u8]) -> Happened
+#[tactic(auto, using(crate::proofs::EventLaws::not_sized, crate::proofs::EventLaws::sized_as))]
+pub fn event(station: Station, event: &[u8], out: &mut [u8]) -> Option<Happened<Station>>
     requires { Invariant station }
     ensures { Happens station (carried_out kinds event.now (length out.old)) out.old out.new result }
 {
-    if !events::is_sized(event) {
-        return doing::nothing(station);
-    }
-    let head = events::head_of(event);
-    carry_out(
-        station,
-        head.kind,
-        head.reading,
-        head.room,
-        &event[EVENT_OCTETS..],
-        out,
-    )
+    let head = events::head_of(event)?;
+    let octets = &event[EVENT_OCTETS..];
+    carry_out(station, head.kind, head.reading, head.room, octets, out)
 }

@@ -14,7 +14,7 @@ length_in_behind k xs rest ys long =
     same_length_in (put_mid event_octets k (xs ++ rest) ys) (xs ++ rest) (take-put_mid_below event_octets k (xs ++ rest) ys event_octets (le_refl event_octets) within)
 
 pub returns-clause-read : goal.returns-clause-read
-returns-clause-read g c = λ _.
+returns-clause-read g c =
     let long : length c.read_full.new.octets ≡ event_octets = search rules in
     let long' : length c.read_full-2.new.octets ≡ c.event_length-size.result = search rules in
     let first = c.in_ok-read_full.ensures in
@@ -22,17 +22,17 @@ returns-clause-read g c = λ _.
     consumes_both _ _ _ _ _ _ _ _ _ _ _ long c.if-branch-lt-EVENT_OCTETS.false first.within long' c.if-branch-size.false second.within first.read second.read
 
 pub returns-clause-whole : goal.returns-clause-whole
-returns-clause-whole g c = λ _.
+returns-clause-whole g c =
     let long : length c.read_full.new.octets ≡ event_octets = search rules in
     ap (λ n. event_octets + n) (c.event_length-size.ensures ∙ sym (length_in_behind _ _ _ _ long))
 
 pub returns-then-size-gt-MOST_OCTETS-clause-none : goal.returns-then-size-gt-MOST_OCTETS-clause-none
-returns-then-size-gt-MOST_OCTETS-clause-none g c = λ _ _.
+returns-then-size-gt-MOST_OCTETS-clause-none g c = λ _.
     let long : length c.read_full.new.octets ≡ event_octets = search rules in
     none_too_long _ _ _ _ _ _ long c.if-branch-lt-EVENT_OCTETS.false c.in_ok-read_full.ensures.read c.event_length-size.ensures c.if-size-gt-MOST_OCTETS.true
 
 pub returns-then-branch-size-clause-none : goal.returns-then-branch-size-clause-none
-returns-then-branch-size-clause-none g c = λ _ _.
+returns-then-branch-size-clause-none g c = λ _.
     let long : length c.read_full.new.octets ≡ event_octets = search rules in
     let long' : length c.read_full-2.new.octets ≡ c.event_length-size.result = search rules in
     let first = c.in_ok-read_full.ensures in
