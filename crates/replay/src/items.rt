@@ -1,46 +1,43 @@
 // The events and replies of a log, one after the other.
-ghost use Rattle.replay.specs.Spans.{Within};
+ghost use Rattle.std.specs.Prelude.{◌-◌, ◌<◌, ◌^◌, length};
+ghost use Rattle.std.specs.Iterator.{at_most};
 
-use crate::text;
-use session_log::ITEM_OCTETS;
+use session_log::{Head, ITEM_OCTETS};
 
-// Where the own octets of an event or of a reply start and end.
+// An event or a reply of a log: where it stands, its head and its own octets.
 #[derive(Clone, Copy)]
-pub(crate) struct Span {
-    pub(crate) start: usize,
-    pub(crate) end: usize,
+pub(crate) struct Item<'a> {
+    pub(crate) at: usize,
+    pub(crate) head: Head,
+    pub(crate) octets: &'a [u8],
+    ghost low: { at < 2 ^ 63 },
 }
 
-// The own octets of the event or of the reply at a place; none at the log's end where they are not all in the log.
-pub(crate) fn own_octets(log: &[u8], at: usize) -> Span
-    ensures { Within result log.now }
-{
-    let size = log.len();
-    let head = session_log::head_at(log, at);
-    let length = text::wide(head[2]);
-    if at <= size {
-        let left = size - at;
-        if ITEM_OCTETS + length <= left {
-            return Span {
-                start: at + ITEM_OCTETS,
-                end: at + ITEM_OCTETS + length,
-            };
-        }
-    }
-    Span {
-        start: size,
-        end: size,
+// The events or the replies from a place of a log on.
+#[derive(Drop)]
+pub(crate) struct Items<'a> {
+    log: &'a [u8],
+    at: usize,
+}
+
+impl<'a> Items<'a> {
+    // Those of a log, from this place on.
+    pub(crate) fn new(log: &'a [u8], at: usize) -> Items<'a> {
+        Items { log, at }
     }
 }
 
-// Where the event or the reply stands that so many stand in front of, in a list that starts at a place.
-pub(crate) fn place(log: &[u8], from: usize, before: usize) -> usize {
-    let mut at: usize = from;
-    let mut i: usize = 0;
-    while i < before {
-        let own = own_octets(log, at);
-        at = own.end;
-        i += 1;
+impl<'a> Iterator for Items<'a> {
+    type Item = Item<'a>;
+
+    ghost remaining = { λ s. at_most (length s.log.now - s.at) };
+
+    fn next(&mut self) -> Option<Item<'a>> {
+        let at = self.at;
+        let rest = self.log.get(at..)?;
+        let head = session_log::head_at(rest, 0);
+        let octets = rest.get(ITEM_OCTETS..ITEM_OCTETS + head[2] as usize)?;
+        self.at += ITEM_OCTETS + octets.len();
+        Some(Item { at, head, octets })
     }
-    at
 }

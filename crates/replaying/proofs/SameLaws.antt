@@ -1,15 +1,14 @@
 -- Octets are the same where the numbers are that they hold.
-use Prim.Native.Nat.{ℕ, zero, suc, ◌+◌, ◌*◌, ◌^◌, ◌/◌, ◌%◌, ◌<◌, ◌≤◌}
+use Prim.Native.Nat.{ℕ, zero, suc, ◌+◌, ◌*◌, ◌^◌, ◌/◌, ◌%◌, ◌<◌}
 use mathlib.Core.Path.{◌≡◌, refl, sym, ap, ap₂, ◌∙◌}
 use mathlib.Core.Bool.{Bool, true, false, ◌&&◌, false≢true}
 use mathlib.Core.List.{List, [], ◌∷◌, ◌++◌}
-use native.Mathlib.Numerals.{add-one}
 use native.Mathlib.Omega.{arith}
 use native.Mathlib.Nat.{pow-suc, pow-zero, div-lt_iff_lt-mul, div-add-mod'}
-use borrow.Author.Tests.{eqb-true, eq-eqb, ne_eqb}
+use borrow.Author.Tests.{eqb-true, eq-eqb}
 use lib.Dec.{eqb}
-use lib.ListN.{length, get_or, drop, drop_of_length-le}
-use lib.Seq.{drop-cons}
+use lib.ListN.{length}
+use lib.Pointwise.{pointwise}
 use Rattle.octets.specs.Octets.{low_bytes}
 use Rattle.messages.proofs.LayoutLaws.{and_left, and_right}
 use Rattle.replaying.specs.Replaying.{same_octets}
@@ -67,39 +66,10 @@ same_low (suc n) a b u v p q =
     ∙ sym (and_assoc (eqb (a % 256) (b % 256)) (eqb (a / 256) (b / 256)) (same_octets u v))
     ∙ ap (λ (d : Bool). d && same_octets u v) (low_octet a b)
 
--- ---- octet by octet
-
-pub unlike_sizes : (a b : List ℕ) → (length a ≡ length b → ⊥) → false ≡ same_octets a b
-unlike_sizes a b h = ap (λ (d : Bool). d && same_octets a b) (sym (ne_eqb (length a) (length b) h)) ∙ same_sized a b
-
--- the octets from i on decide
-pub record Left (a b : List ℕ) (i : ℕ) : Type 0 where
-  pub within : i ≤ length a
-  pub sizes : length a ≡ length b
-  pub same : same_octets (drop i a) (drop i b) ≡ same_octets a b
-
-pub left_start : (a b : List ℕ) → length a ≡ length b → Left a b 0
-left_start a b h = record { within = omega arith; sizes = h; same = refl }
-
-module _ (a b : List ℕ) (i : ℕ) (l : Left a b i) where
-  pub left_end : length a ≤ i → true ≡ same_octets a b
-  unfolding same_octets
-  left_end h = sym (ap₂ same_octets (drop_of_length-le a {i = i} h) (drop_of_length-le b {i = i} (let s = l.sizes in omega arith))) ∙ l.same
-
-  module _ (more : i < length a) where
-    one_octet : eqb (get_or a i 0) (get_or b i 0) && same_octets (drop (suc i) a) (drop (suc i) b) ≡ same_octets a b
-    unfolding same_octets
-    one_octet = sym (ap₂ same_octets (drop-cons a i 0 more) (drop-cons b i 0 (let s = l.sizes in omega arith))) ∙ l.same
-
-    pub left_differs : (get_or a i 0 ≡ get_or b i 0 → ⊥) → false ≡ same_octets a b
-    left_differs h = ap (λ (d : Bool). d && same_octets (drop (suc i) a) (drop (suc i) b)) (sym (ne_eqb (get_or a i 0) (get_or b i 0) h)) ∙ one_octet
-
-    pub left_next : get_or a i 0 ≡ get_or b i 0 → Left a b (i + 1)
-    left_next h = record {
-      within = omega arith;
-      sizes = l.sizes;
-      same =
-          ap (λ (k : ℕ). same_octets (drop k a) (drop k b)) (add-one i)
-          ∙ ap (λ (d : Bool). d && same_octets (drop (suc i) a) (drop (suc i) b)) (sym (eq-eqb (get_or a i 0) (get_or b i 0) h))
-          ∙ one_octet;
-    }
+-- the test of two runs of octets
+pub same_pointwise : (a b : List ℕ) → pointwise eqb a b ≡ same_octets a b
+unfolding same_octets
+same_pointwise [] [] = refl
+same_pointwise [] (y ∷ b) = refl
+same_pointwise (x ∷ a) [] = refl
+same_pointwise (x ∷ a) (y ∷ b) = ap (λ (d : Bool). eqb x y && d) (same_pointwise a b)

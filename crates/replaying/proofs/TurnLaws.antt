@@ -9,15 +9,19 @@ use borrow.Author.Tests.{le-leb}
 use lib.Dec.{eqb, ltb}
 use lib.ListN.{length, get_or, take, drop, length-append}
 use lib.Seq.{take-append_seam}
+use lib.Pointwise.{pointwise}
+use Rattle.std.specs.Prelude.{IfSome, Some, None}
+use Rattle.std.specs.Bool.{then_some}
 use Rattle.octets.specs.Octets.{value, low_bytes, splice, Octets}
 use Rattle.rules.specs.declared.Station.{Station}
+use Rattle.rules.specs.Invariant.{Invariant}
 use Rattle.rules.specs.Calls.{Call, frame, tick, pilot, terminate, link_up}
 use Rattle.rules.specs.Constants.{least_output}
 use Rattle.rules.specs.Numbers.{pilot_of}
 use Rattle.rules.specs.Rules.{step, outcome}
 use Rattle.script.specs.declared.Happened.{Happened}
 use Rattle.script.specs.Ends as ends
-use Rattle.script.specs.Ends.{carried_out_as}
+use Rattle.script.specs.Ends.{carried_out_as, CarriedOut}
 use Rattle.script.specs.Events.{call, given}
 use Rattle.script.specs.Layout.{Event, kinds}
 use Rattle.script.specs.Promises.{reply, Happens}
@@ -27,6 +31,7 @@ use Rattle.session_log.specs.Layout.{numbers, octets_of, head_at, behind, item_a
 use Rattle.replaying.specs.Replaying.{call_in, call_of, recorded, same_octets, after, is_reply}
 use Rattle.replaying.specs.Private.{Stand, Turned}
 use Rattle.replaying.proofs.ReplyLaws.{Narrow, same_replies, item_narrow, item_octets_lem, reply_octets_lem, recorded_narrow}
+use Rattle.replaying.proofs.SameLaws.{same_pointwise}
 use Rattle.replaying.proofs.RefusalLaws.{refusal_narrow}
 
 -- ---- the call
@@ -88,17 +93,42 @@ after_call : (s : Station) (w : Option Call) → ends.after step s (event_as w) 
 after_call s none = refl
 after_call s (some x) = refl
 
+kept_then : (b : Bool) (z : Station) → Invariant z → IfSome (then_some b z) Invariant
+kept_then true z k = k
+kept_then false z k = tt
+
+-- what an event that was carried out leaves
+pub carried : (station : Station) (entry out : List ℕ) (h : Happened Station) (w : Option Event) → Happens station w entry out (Some h) → CarriedOut Invariant (ends.after step station w) (reply station w) entry out h.left h.octets
+carried station entry out h none done = absurd done
+carried station entry out h (some x) done = done
+
+-- what is not carried out is no call
+none_carried : (station : Station) (entry out : List ℕ) (w : Option Call) → Happens station (event_as w) entry out None → w ≡ none
+none_carried station entry out none done = refl
+none_carried station entry out (some x) done = absurd done
+
 module _ (station : Station) (s : List ℕ) (event place : ℕ) (o : Octets s) (p : Stand s event place) where
   -- the turn of an event: its reply is held to the part of the log that has the recorded one
-  pub turned : {entry out : List ℕ} {h : Happened} {b : Bool} {end : ℕ} → length out ≡ longest_reply → Happens station (event_as (call_of (item_at s event))) entry out h → end ≡ behind s place → b ≡ same_octets (take (h.octets - 0) out) (take (end - place) (drop place s)) → Turned station (item_at s event) (item_at s place) (record { station = h.station; same = b })
-  turned {entry} {out} {h} size done ends e =
+  pub turned : (entry out : List ℕ) (h : Happened Station) {b : Bool} {end : ℕ} → length out ≡ longest_reply → Happens station (event_as (call_of (item_at s event))) entry out (Some h) → end ≡ behind s place → b ≡ pointwise eqb (take h.octets out) (take (end - place) (drop place s)) → Turned station (item_at s event) (item_at s place) (then_some b h.left)
+  turned entry out h {b} {end} size happened ends e =
       let w : Option Call = call_of (item_at s event) in
+      let done = carried station entry out h (event_as w) happened in
       let ws : List ℕ = reply station (event_as w) in
+      let same : b ≡ is_reply station w (item_at s place) =
+      e
+      ∙ same_pointwise (take h.octets out) (take (end - place) (drop place s))
+      ∙ ap₂ same_octets (ap (λ (n : ℕ). take n out) done.octets ∙ written_front ws entry out done.output) (ap (λ (n : ℕ). take (n - place) (drop place s)) ends ∙ item_octets_lem s place o p.reply_ends)
+      ∙ compared station w (item_at s place) (item_narrow s place o p.reply_ends) (let f = written_fits ws entry out done.output in omega arith) in
       record {
-        left = done.left ∙ after_call station w;
-        same =
-            e
-            ∙ ap₂ same_octets (ap (λ (n : ℕ). take n out) (let z : h.octets - 0 ≡ length ws = (let q = done.octets in omega arith) in z) ∙ written_front ws entry out done.output) (ap (λ (n : ℕ). take (n - place) (drop place s)) ends ∙ item_octets_lem s place o p.reply_ends)
-            ∙ compared station w (item_at s place) (item_narrow s place o p.reply_ends) (let f = written_fits ws entry out done.output in omega arith);
-        kept = done.kept;
+        left = ap₂ then_some same (done.left ∙ after_call station w);
+        kept = kept_then b h.left done.kept;
+      }
+
+  -- the turn of an event that is not carried out: no reply is the one to it
+  pub unturned : (entry out : List ℕ) → Happens station (event_as (call_of (item_at s event))) entry out None → Turned station (item_at s event) (item_at s place) None
+  unturned entry out done =
+      let none_here : call_of (item_at s event) ≡ none = none_carried station entry out (call_of (item_at s event)) done in
+      record {
+        left = sym (ap (λ (w : Option Call). then_some (is_reply station w (item_at s place)) (after station w)) none_here);
+        kept = tt;
       }

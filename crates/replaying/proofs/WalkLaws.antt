@@ -3,6 +3,9 @@ use Prim.Native.Nat.{ℕ, suc, ◌+◌, ◌-◌, ◌<◌, ◌≤◌}
 use mathlib.Core.Path.{◌≡◌, refl, sym, ap, ap₂, ◌∙◌}
 use mathlib.Core.Bool.{Bool, true, false, cond}
 use mathlib.Core.List.{List}
+use Rattle.std.specs.Prelude.{Option, Some, None}
+use Rattle.std.specs.Bool.{then_some}
+use Rattle.std.proofs.lemmas.Option.{MatchOption-at_some}
 use native.Mathlib.Omega.{arith}
 use borrow.Author.Tests.{leb-true}
 use lib.Dec.{leb}
@@ -16,7 +19,6 @@ use Rattle.rules.specs.Invariant.{Invariant}
 use Rattle.session_log.specs.Meaning.{head_of, first_in}
 use Rattle.session_log.specs.Layout.{head_at, behind, item_at, items_at}
 use Rattle.session_log.specs.Reading.{ends_at, event_rules, item_rules}
-use Rattle.replaying.specs.declared.Turn.{Turn}
 use Rattle.replaying.specs.Replaying.{call_of, after, is_reply, difference_from, first_difference}
 use Rattle.replaying.specs.Private.{Stand, Listed, Turned}
 
@@ -68,6 +70,16 @@ listed_as s m n event reply e l = rw e at l
 
 -- ---- from event to event
 
+-- a turn that gives no station found another reply
+then_none : (b : Bool) (x : Station) → then_some b x ≡ None → b ≡ false
+then_none true x e = absurd cc
+then_none false x e = refl
+
+-- and one that gives a station found the same
+then_given : (b : Bool) (x y : Station) → then_some b x ≡ Some y → (b ≡ true) × (x ≡ y)
+then_given true x y e = (refl, cc)
+then_given false x y e = absurd cc
+
 -- before the event i, counted from 0: the station, and where the event and its reply stand
 pub record Going (station : Station) (s : List ℕ) (count events replies : ℕ) (at : Station) (event reply i : ℕ) : Type 0 where
   pub turns : i ≤ count
@@ -109,18 +121,20 @@ module _ (station : Station) (s : List ℕ) (count events replies : ℕ) where
       unfolding difference_from items_at
       one_event = ap (λ (n : ℕ). difference_from (i + 1) at (items_at s n event) (items_at s n reply)) (sym one_left) ∙ g.same
 
-      module _ (t : Turn) (h : Turned at (item_at s event) (item_at s reply) t) where
-        by_turn : cond t.same (difference_from (i + 1 + 1) t.station (items_at s left (behind s event)) (items_at s left (behind s reply))) (i + 1) ≡ first_difference station (items_at s count events) (items_at s count replies)
-        by_turn = ap₂ (λ (d : Bool) (z : Station). cond d (difference_from (i + 1 + 1) z (items_at s left (behind s event)) (items_at s left (behind s reply))) (i + 1)) h.same h.left ∙ one_event
+      module _ (t : Option Station) (h : Turned at (item_at s event) (item_at s reply) t) where
+        abbrev same : Bool
+        same = is_reply at (call_of (item_at s event)) (item_at s reply)
 
-        pub going_differs : t.same ≡ false → i + 1 ≡ first_difference station (items_at s count events) (items_at s count replies)
-        going_differs d = ap (λ (b : Bool). cond b (difference_from (i + 1 + 1) t.station (items_at s left (behind s event)) (items_at s left (behind s reply))) (i + 1)) (sym d) ∙ by_turn
+        pub going_differs : t ≡ None → i + 1 ≡ first_difference station (items_at s count events) (items_at s count replies)
+        going_differs d = ap (λ (b : Bool). cond b (difference_from (i + 1 + 1) (after at (call_of (item_at s event))) (items_at s left (behind s event)) (items_at s left (behind s reply))) (i + 1)) (sym (then_none same _ (sym h.left ∙ d))) ∙ one_event
 
-        pub going_next : t.same ≡ true → Going station s count events replies t.station (behind s event) (behind s reply) (i + 1)
+        pub going_next : (next : Station) → t ≡ Some next → Going station s count events replies next (behind s event) (behind s reply) (i + 1)
         unfolding left
-        going_next d = record {
-          turns = omega arith;
-          kept = h.kept;
-          listed = listed_rest s left event reply listed;
-          same = ap (λ (b : Bool). cond b (difference_from (i + 1 + 1) t.station (items_at s left (behind s event)) (items_at s left (behind s reply))) (i + 1)) (sym d) ∙ by_turn;
-        }
+        going_next next d =
+            let e = then_given same (after at (call_of (item_at s event))) next (sym h.left ∙ d) in
+            record {
+              turns = omega arith;
+              kept = MatchOption-at_some _ Invariant next d h.kept;
+              listed = listed_rest s left event reply listed;
+              same = ap₂ (λ (b : Bool) (z : Station). cond b (difference_from (i + 1 + 1) z (items_at s left (behind s event)) (items_at s left (behind s reply))) (i + 1)) (sym e.0) (sym e.1) ∙ one_event;
+            }

@@ -1,4 +1,3 @@
 pub mod Replaying
-pub mod Answers
 pub mod Private
 pub mod Claims

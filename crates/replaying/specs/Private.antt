@@ -1,5 +1,6 @@
 -- What the contracts of private functions cite, and no public one.
-use Rattle.std.specs.Prelude.{ℕ, ◌≤◌, ◌≡◌, true, List, length}
+use Rattle.std.specs.Prelude.{ℕ, ◌≤◌, ◌≡◌, true, List, length, Option, IfSome}
+use Rattle.std.specs.Bool.{then_some}
 use Rattle.messages.specs.Reading.{yes}
 use Rattle.rules.specs.declared.Station.{Station}
 use Rattle.rules.specs.Invariant.{Invariant}
@@ -7,7 +8,6 @@ use Rattle.script.specs.Replies.{longest_reply}
 use Rattle.session_log.specs.Meaning.{Item, first_in}
 use Rattle.session_log.specs.Layout.{most_octets, head_at, behind, items_at}
 use Rattle.session_log.specs.Reading.{ends_at, event_rules, item_rules}
-use Rattle.replaying.specs.declared.Turn.{Turn}
 use Rattle.replaying.specs.Replaying.{call_of, after, is_reply}
 
 -- a station, and an output that the longest reply just fits
@@ -31,8 +31,7 @@ pub record Listed (s : List ℕ) (n event reply : ℕ) : Type 0 where
   pub replies : ends_at s n reply replies_end ≡ true
   pub right : item_rules event_rules (items_at s n event) ≡ yes tt
 
--- the station after the event e, and whether the reply r is the one to it
-pub record Turned (station : Station) (e r : Item) (t : Turn) : Type 0 where
-  pub left : t.station ≡ after station (call_of e)
-  pub same : t.same ≡ is_reply station (call_of e) r
-  pub kept : Invariant t.station
+-- the station after the event e, where the reply r is the one to it
+pub record Turned (station : Station) (e r : Item) (t : Option Station) : Type 0 where
+  pub left : t ≡ then_some (is_reply station (call_of e) r) (after station (call_of e))
+  pub kept : IfSome t Invariant

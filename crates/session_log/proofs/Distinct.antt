@@ -2,14 +2,12 @@
 use Prim.Native.Nat.{ℕ, ◌-◌}
 use mathlib.Core.Path.{◌≡◌, refl, sym, ap, ◌∙◌}
 use mathlib.Core.List.{List, [], ◌∷◌}
-use native.Mathlib.Omega.{arith}
+use Rattle.std.specs.Prelude.{Result, Ok, Err}
 use lib.ListN.{get_or}
-use Rattle.session_log.specs.Answers.{number_of}
+use Rattle.session_log.specs.Answers.{number_of, answer_of}
 use Rattle.session_log.specs.Claims.{NumbersDiffer, AnswersDiffer, WrittenDiffer}
 use Rattle.session_log.specs.declared.Cause.{Cause}
 use Rattle.session_log.specs.declared.Cause.TheVariants.{TooLong, TooShort, CountsDiffer, EventsElsewhere, RepliesElsewhere, EndElsewhere, TooWide, BadSetting, BadKind, BadReading, BadEventLength, BadPilot, BadIndication, BadReplyLength, OutputTooShort}
-use Rattle.session_log.specs.declared.ReadAnswer.TheVariants as read_answer
-use Rattle.session_log.specs.declared.Written.TheVariants as written
 
 -- the causes in the order of their numbers, which begin at 1
 causes : List Cause
@@ -42,14 +40,15 @@ cause_back OutputTooShort = refl
 pub numbers_differ : NumbersDiffer
 numbers_differ x y e = sym (cause_back x) ∙ ap cause_of e ∙ cause_back y
 
+-- whatever the value is that was answered
+same_answer : {A : Type 0} (a b : Result A Cause) → answer_of a ≡ answer_of b → a ≡ b
+same_answer (Ok x) (Ok y) e = ap Ok cc
+same_answer (Ok x) (Err d) e = absurd cc
+same_answer (Err c) (Ok y) e = absurd cc
+same_answer (Err c) (Err d) e = ap Err (numbers_differ c d (cc))
+
 pub answers_differ : AnswersDiffer
-answers_differ (read_answer.Read p) (read_answer.Read q) e = ap read_answer.Read (cc)
-answers_differ (read_answer.Read p) (read_answer.Refused y) e = absurd (let z : ◌≡◌ {A = ℕ} 0 1 = cc in omega arith)
-answers_differ (read_answer.Refused x) (read_answer.Read q) e = absurd (let z : ◌≡◌ {A = ℕ} 0 1 = cc in omega arith)
-answers_differ (read_answer.Refused x) (read_answer.Refused y) e = ap read_answer.Refused (numbers_differ x y (cc))
+answers_differ = same_answer
 
 pub written_differ : WrittenDiffer
-written_differ (written.Octets m) (written.Octets n) e = ap written.Octets (cc)
-written_differ (written.Octets m) (written.Refused y) e = absurd (let z : ◌≡◌ {A = ℕ} 0 1 = cc in omega arith)
-written_differ (written.Refused x) (written.Octets n) e = absurd (let z : ◌≡◌ {A = ℕ} 0 1 = cc in omega arith)
-written_differ (written.Refused x) (written.Refused y) e = ap written.Refused (numbers_differ x y (cc))
+written_differ = same_answer

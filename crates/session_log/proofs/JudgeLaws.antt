@@ -1,11 +1,11 @@
 -- Walks over the heads that the writer is given: what is left to do at each place is the whole.
-use Prim.Native.Nat.{ℕ, ◌+◌, ◌-◌, ◌≤◌, ◌<◌, min}
-use mathlib.Core.Path.{◌≡◌, refl, sym, ap, ap₂, ◌∙◌}
-use mathlib.Core.Bool.{Bool, true, cond}
-use mathlib.Core.List.{List, [], ◌∷◌}
+use Prim.Native.Nat.{ℕ, ◌+◌, ◌≤◌, ◌<◌, min}
+use mathlib.Core.Path.{◌≡◌, refl, sym, ap, ◌∙◌}
+use mathlib.Core.Bool.{Bool, true}
+use mathlib.Core.List.{List, []}
 use native.Mathlib.Omega.{arith}
 use borrow.Author.Tests.{eq-eqb, ne_eqb}
-use lib.Dec.{eqb, leb}
+use lib.Dec.{eqb}
 use lib.ListN.{length, get_or, take, drop, length-drop, drop_of_length-le}
 use lib.Seq.{drop-drop}
 use Rattle.messages.specs.Reading.{Checked, no, yes, check}
@@ -49,19 +49,6 @@ module _ {hs : List (List ℕ)} {from end i : ℕ} (s : Summed hs from end i) wh
 
   pub summed_end : length hs ≤ i → end ≡ min (from + size_of hs) too_long
   summed_end h = let d = size_end hs i h in let z = s.same in let k = s.capped in omega arith
-
--- ---- an item
-
-whole_cond : (h : List ℕ) (hs : List (List ℕ)) (s : List ℕ) → cond (eqb (length hs) 0) (eqb (length s) (length_in h)) (leb (length_in h) (length s)) ≡ is_whole h hs s
-whole_cond h [] s = refl
-whole_cond h (k ∷ hs) s = ap (λ (b : Bool). cond b (eqb (length s) (length_in h)) (leb (length_in h) (length s))) (ne_eqb (length (k ∷ hs)) 0 (λ e. omega arith))
-
--- whether the octets of the head i are all there, as the code finds it
-pub whole_found : (h : List ℕ) (hs : List (List ℕ)) (s : List ℕ) (i at : ℕ) {n : ℕ} → n ≡ length_in h → cond (eqb (length hs - (i + 1)) 0) (eqb (length s - at) n) (leb n (length s - at)) ≡ is_whole h (drop (i + 1) hs) (drop at s)
-whole_found h hs s i at {n} e =
-    ap (λ (k : ℕ). cond (eqb (length hs - (i + 1)) 0) (eqb (length s - at) k) (leb k (length s - at))) e
-    ∙ ap₂ (λ (k m : ℕ). cond (eqb k 0) (eqb m (length_in h)) (leb (length_in h) m)) (sym (length-drop (i + 1) hs)) (sym (length-drop at s))
-    ∙ whole_cond h (drop (i + 1) hs) (drop at s)
 
 -- ---- the items one after the other
 

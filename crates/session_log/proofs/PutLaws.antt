@@ -36,12 +36,12 @@ numbers_stored (v ∷ vs) d at =
     ∙ sym (sets_append (low_bytes 4 v) (numbers vs) d at)
 
 -- an item's three numbers and its octets
-pub item_stored : (d s : List ℕ) (to n : ℕ) (h : List ℕ) → n ≡ length_in h → length s ≡ n → sets (stored d to (first_in h ∷ second_in h ∷ n ∷ [])) (to + 4 + 4 + 4) s ≡ sets d to (octets_of (item_of h s))
+pub item_stored : (d s : List ℕ) (to : ℕ) (h : List ℕ) → length s ≡ length_in h → sets (stored d to (first_in h ∷ second_in h ∷ length_in h ∷ [])) (to + item_octets) s ≡ sets d to (octets_of (item_of h s))
 unfolding numbers
-item_stored d s to n h e size =
+item_stored d s to h size =
     let head : List ℕ = first_in h ∷ second_in h ∷ length s ∷ [] in
-    let place : to + 4 + 4 + 4 ≡ to + length (numbers head) = omega (arith, length_low 4 (first_in h), length_low 4 (second_in h), length_low 4 (length s), length-append (low_bytes 4 (first_in h)) (numbers (second_in h ∷ length s ∷ [])), length-append (low_bytes 4 (second_in h)) (numbers (length s ∷ [])), length-append (low_bytes 4 (length s)) []) in
-    ap (λ (k : ℕ). sets (stored d to (first_in h ∷ second_in h ∷ k ∷ [])) (to + 4 + 4 + 4) s) (sym size)
+    let place : to + item_octets ≡ to + length (numbers head) = omega (arith, length_low 4 (first_in h), length_low 4 (second_in h), length_low 4 (length s), length-append (low_bytes 4 (first_in h)) (numbers (second_in h ∷ length s ∷ [])), length-append (low_bytes 4 (second_in h)) (numbers (length s ∷ [])), length-append (low_bytes 4 (length s)) []) in
+    ap (λ (k : ℕ). sets (stored d to (first_in h ∷ second_in h ∷ k ∷ [])) (to + item_octets) s) (sym size)
     ∙ ap₂ (λ (l : List ℕ) (k : ℕ). sets l k s) (numbers_stored head d to) place
     ∙ sym (sets_append (numbers head) s d to)
 
@@ -81,7 +81,7 @@ module _ {hs : List (List ℕ)} {s : List ℕ} {from : ℕ} {out₀ out : List �
     pub putting_short : to + item_octets + length_in head ≤ most_octets
     putting_short = let n = size_next hs i more in let q = p.end in let w = p.short in omega arith
 
-    pub putting_next : {exit : List ℕ} → exit ≡ sets out to (octets_of (item_in hs i s at)) → Putting hs s from out₀ exit (to + item_octets + length_in head) (at + length_in head) (i + 1)
+    pub putting_next : {exit : List ℕ} → exit ≡ sets out to (octets_of (item_in hs i s at)) → Putting hs s from out₀ exit (to + (item_octets + length_in head)) (at + length_in head) (i + 1)
     unfolding items_of joins
     putting_next e =
         let n : size_of (drop i hs) ≡ item_octets + length_in head + size_of (drop (i + 1) hs) = size_next hs i more in
@@ -90,7 +90,7 @@ module _ {hs : List (List ℕ)} {s : List ℕ} {from : ℕ} {out₀ out : List �
         let x : Item = item_in hs i s at in
         let rest : List ℕ = list_octets (items_of (drop (i + 1) hs) (drop (at + length_in head) s)) in
         let long : length (part s at (length_in head)) ≡ length_in head = length-take-le (length_in head) (drop at s) (rw length-drop (omega arith)) in
-        let place : to + item_octets + length_in head ≡ to + length (octets_of x) = omega (arith, length_octets x, long) in
+        let place : to + (item_octets + length_in head) ≡ to + length (octets_of x) = omega (arith, length_octets x, long) in
         record {
           turns = omega arith;
           same_length = ap length e ∙ length-sets out to (octets_of x) ∙ p.same_length;

@@ -6,9 +6,8 @@ use mathlib.Core.List.{List, [], ◌∷◌}
 use native.Mathlib.Omega.{arith}
 use borrow.Author.Tests.{leb-true}
 use lib.Dec.{eqb, leb}
-use lib.ListN.{length, get_or, drop, get_or-eq_default}
-use lib.Seq.{get_or-take, get_or-drop}
-use Rattle.octets.specs.Octets.{low_value, part}
+use lib.ListN.{length, get_or, get_or-eq_default}
+use Rattle.octets.specs.Octets.{low_value}
 use Rattle.messages.specs.Reading.{Checked, no, yes}
 use Rattle.ends.specs.Outcomes.{and_then}
 use Rattle.session_log.specs.Meaning.{head_of}
@@ -28,9 +27,6 @@ low_past s at (suc n) h = let r = low_past s (suc at) n (omega arith) in let g =
 pub head_past : (s : List ℕ) (at : ℕ) → length s ≤ at → head_at s at ≡ 0 ∷ 0 ∷ 0 ∷ []
 unfolding numbers_at
 head_past s at h = ap₂ (λ (a : ℕ) (l : List ℕ). a ∷ l) (low_past s at 4 h) (ap₂ (λ (a b : ℕ). a ∷ b ∷ []) (low_past s (at + 4) 4 (omega arith)) (low_past s (at + 4 + 4) 4 (omega arith)))
-
-pub part_first : (s : List ℕ) (at n : ℕ) → 0 < n → get_or s at 0 ≡ get_or (part s at n) 0 0
-part_first s at n h = sym (get_or-take n (drop at s) 0 0 h ∙ get_or-drop at s 0 0 ∙ ap (λ (k : ℕ). get_or s k 0) (let e : at + 0 ≡ at = omega arith in e))
 
 -- ---- the walk over the lengths
 

@@ -1,13 +1,9 @@
 -- Document 01's numbers and values for each case of the answers that the code gives.
-use Rattle.std.specs.Prelude.{ℕ, List}
+use Rattle.std.specs.Prelude.{ℕ, List, Result, Ok, Err}
 use Rattle.messages.specs.Reading.{Checked, no, yes}
 use Rattle.session_log.specs.declared.Cause.{Cause}
 use Rattle.session_log.specs.declared.Cause.TheVariants.{TooLong, TooShort, CountsDiffer, EventsElsewhere, RepliesElsewhere, EndElsewhere, TooWide, BadSetting, BadKind, BadReading, BadEventLength, BadPilot, BadIndication, BadReplyLength, OutputTooShort}
 use Rattle.session_log.specs.declared.Places.{Places}
-use Rattle.session_log.specs.declared.ReadAnswer.{ReadAnswer}
-use Rattle.session_log.specs.declared.ReadAnswer.TheVariants as read_answer
-use Rattle.session_log.specs.declared.Written.{Written}
-use Rattle.session_log.specs.declared.Written.TheVariants as written
 use Rattle.session_log.specs.Meaning.{Log}
 use Rattle.session_log.specs.Layout.{events_start}
 use Rattle.session_log.specs.Reading.{count_in, replies_in}
@@ -39,12 +35,7 @@ abbrev pub places_of : List ℕ → Checked Log → Checked Places
 places_of s (no n) = no n
 places_of s (yes l) = yes (places_in s)
 
--- what reading answered
-abbrev pub answer_of : ReadAnswer → Checked Places
-answer_of (read_answer.Refused x) = no (number_of x)
-answer_of (read_answer.Read p) = yes p
-
--- what writing answered: how many octets the log takes
-abbrev pub written_of : Written → Checked ℕ
-written_of (written.Refused x) = no (number_of x)
-written_of (written.Octets n) = yes n
+-- what was answered: a value, such as the places of reading and the octets' number of writing, or a cause by its number
+abbrev pub answer_of : {A : Type 0} → Result A Cause → Checked A
+answer_of (Err x) = no (number_of x)
+answer_of (Ok a) = yes a

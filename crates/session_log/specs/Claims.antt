@@ -1,15 +1,14 @@
 -- What is proved of the definitions: the two round trips, that one meaning has one layout, which causes there are, and that answers are told apart.
-use Rattle.std.specs.Prelude.{ℕ, ◌<◌, ◌^◌, ◌≡◌, Bool, true, false, ◌||◌, List, [], ◌∷◌, eqb, leb, length}
+use Rattle.std.specs.Prelude.{ℕ, ◌<◌, ◌^◌, ◌≡◌, Bool, true, false, ◌||◌, List, [], ◌∷◌, eqb, leb, length, Result}
 use Rattle.octets.specs.Octets.{Octets}
 use Rattle.messages.specs.Reading.{no, yes, check}
 use Rattle.ends.specs.Lists.{All}
 use Rattle.session_log.specs.declared.Cause.{Cause}
-use Rattle.session_log.specs.declared.ReadAnswer.{ReadAnswer}
-use Rattle.session_log.specs.declared.Written.{Written}
+use Rattle.session_log.specs.declared.Places.{Places}
 use Rattle.session_log.specs.Meaning.{Log, first_in, second_in}
 use Rattle.session_log.specs.Reading.{read_rules}
 use Rattle.session_log.specs.Writing.{Given, log_of, given_by, write_rules}
-use Rattle.session_log.specs.Answers.{number_of, answer_of, written_of}
+use Rattle.session_log.specs.Answers.{number_of, answer_of}
 
 -- a head as its type has it: three numbers of 32 bits, of which the causes limit the length
 pub record IsHead (h : List ℕ) : Type 0 where
@@ -56,8 +55,8 @@ NumbersDiffer = (x y : Cause) → number_of x ≡ number_of y → x ≡ y
 
 -- each answer of reading has a meaning of its own
 abbrev pub AnswersDiffer : Type 0
-AnswersDiffer = (a b : ReadAnswer) → answer_of a ≡ answer_of b → a ≡ b
+AnswersDiffer = (a b : Result Places Cause) → answer_of a ≡ answer_of b → a ≡ b
 
 -- each answer of writing has a meaning of its own
 abbrev pub WrittenDiffer : Type 0
-WrittenDiffer = (a b : Written) → written_of a ≡ written_of b → a ≡ b
+WrittenDiffer = (a b : Result ℕ Cause) → answer_of a ≡ answer_of b → a ≡ b

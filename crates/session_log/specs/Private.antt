@@ -3,20 +3,12 @@ use Rattle.std.specs.Prelude.{ℕ, ◌+◌, ◌*◌, ◌≤◌, ◌≡◌, true,
 use Rattle.octets.specs.Octets.{part}
 use Rattle.messages.specs.Reading.{Checked, no, yes}
 use Rattle.session_log.specs.declared.Configuration.{Configuration}
-use Rattle.session_log.specs.declared.judging.Judged.{Judged}
-use Rattle.session_log.specs.declared.judging.Judged.TheVariants.{Fine, Refused}
 use Rattle.session_log.specs.declared.judging.Which.{Which}
 use Rattle.session_log.specs.declared.judging.Which.TheVariants.{Events, Replies}
 use Rattle.session_log.specs.Meaning.{Item, head_of, length_in, item_of}
-use Rattle.session_log.specs.Answers.{number_of}
 use Rattle.session_log.specs.Layout.{most_octets, head_octets, item_octets, item_at}
 use Rattle.session_log.specs.Reading.{Rules, ends_at, event_rules, reply_rules}
 use Rattle.session_log.specs.Writing.{size_of, is_whole}
-
--- what judging answered
-abbrev pub judged_of : Judged → Checked (Unit {0})
-judged_of Fine = yes tt
-judged_of (Refused x) = no (number_of x)
 
 -- whether there is an answer, or the cause
 abbrev pub told : {A : Type 0} → Checked A → Checked (Unit {0})

@@ -4,6 +4,7 @@ use Rattle.messages.specs.Reading.{Checked, yes, check}
 use Rattle.ends.specs.Lists.{joins}
 use Rattle.ends.specs.Outcomes.{and_then}
 use Rattle.session_log.specs.declared.Configuration.{Configuration}
+use Rattle.session_log.specs.declared.Session.{Session}
 use Rattle.session_log.specs.Meaning.{Item, Log, head_of, length_in, item_of}
 use Rattle.session_log.specs.Layout.{most_octets, item_octets, events_start, log_octets}
 use Rattle.session_log.specs.Reading.{is_set, Rules, event_rules, reply_rules}
@@ -19,6 +20,10 @@ pub record Given : Type 0 where
 -- these five
 abbrev pub given : Configuration → List (List ℕ) → List ℕ → List (List ℕ) → List ℕ → Given
 given c es s rs t = record { configuration = c; events = es; event_octets = s; replies = rs; reply_octets = t }
+
+-- what a session gives
+abbrev pub given_in : Session → Given
+given_in x = given x.configuration x.events.now x.octets.now x.replies.now x.frames.now
 
 -- the items that heads and octets mean
 unfoldable pub items_of : List (List ℕ) → List ℕ → List Item

@@ -1,18 +1,19 @@
 // Writing a log: first what is given is judged, and then the parts are written back to back.
 ghost use Rattle.std.specs.Prelude.{◌≡◌, cond, [], ◌∷◌, ◌<◌, ◌≤◌, ◌+◌, ◌^◌, min, eqb, leb, length};
 ghost use Rattle.std.proofs.lemmas.List.Edits.{sets};
-ghost use Rattle.octets.specs.Octets.{low_bytes};
+ghost use Rattle.octets.specs.Octets.{low_bytes, part};
 ghost use Rattle.messages.specs.Layout.{encode};
 ghost use Rattle.messages.specs.Reading.{yes};
-ghost use Rattle.session_log.specs.Meaning.{length_in};
+ghost use Rattle.session_log.specs.Meaning.{length_in, item_of};
 ghost use Rattle.session_log.specs.Layout.{most_octets, head_octets, events_start, fields, values_of, numbers, octets_of, list_octets, log_octets};
-ghost use Rattle.session_log.specs.Writing.{given, items_of, log_of, size_of, is_narrow, given_rules, meaning_rules};
-ghost use Rattle.session_log.specs.Answers.{number_of};
-ghost use Rattle.session_log.specs.Private.{judged_of, told, rules_of, head_in, item_in, given_item, cause_of, too_long, Fitting, settings_start, settings_of};
+ghost use Rattle.session_log.specs.Writing.{given_in, items_of, log_of, size_of, is_narrow, given_rules, meaning_rules};
+ghost use Rattle.session_log.specs.Answers.{number_of, answer_of};
+ghost use Rattle.session_log.specs.Private.{told, rules_of, head_in, item_in, given_item, cause_of, too_long, Fitting, settings_start, settings_of};
 
-use crate::judging::{Judged, Which};
+use crate::judging::Which;
 use crate::{
-    Cause, Configuration, EVENTS_START, HEAD_OCTETS, Head, ITEM_OCTETS, MOST_OCTETS, judging,
+    Cause, Configuration, EVENTS_START, HEAD_OCTETS, Head, ITEM_OCTETS, MOST_OCTETS, Session,
+    judging,
 };
 
 // Where the settings start: behind the NMK.
@@ -22,43 +23,19 @@ const SETTINGS: usize = HEAD_OCTETS + 35;
 const TOO_LONG: usize = MOST_OCTETS + 1;
 
 // The first number that is no address: 2^48.
-const ADDRESS_LIMIT: u64 = 0x1000000000000;
+const ADDRESS_LIMIT: u64 = 1 << 48;
 
 // The first number that is wider than a NID: 2^56.
-const NID_LIMIT: u64 = 0x100000000000000;
-
-// n, or the first length that no log has.
-fn at_most(n: usize) -> usize
-    ensures { result ≡ min n too_long }
-{
-    if n < TOO_LONG { n } else { TOO_LONG }
-}
-
-// A wider number.
-fn wide(x: u32) -> usize
-    ensures { (result ≡ x) × (result < 2 ^ 32) }
-{
-    x as usize
-}
-
-// The length that a head tells.
-fn length_at(heads: &[Head], i: usize) -> usize
-    requires { i < length heads.now }
-    ensures { (result ≡ length_in (head_in heads.now i)) × (result < 2 ^ 32) }
-{
-    wide(heads[i][2])
-}
+const NID_LIMIT: u64 = 1 << 56;
 
 // Where items end that start at a place, or the first length that no log has.
 fn end_of(heads: &[Head], from: usize) -> usize
     requires { from ≤ too_long }
     ensures { result ≡ min (from + size_of heads.now) too_long }
 {
-    let mut end: usize = from;
-    let mut i: usize = 0;
-    while i < heads.len() {
-        end = at_most(end + ITEM_OCTETS + length_at(heads, i));
-        i += 1;
+    let mut end = from;
+    for head in heads {
+        end = (end + ITEM_OCTETS + head[2] as usize).min(TOO_LONG);
     }
     end
 }
@@ -75,15 +52,14 @@ fn is_whole(more: usize, length: usize, left: usize) -> bool
 }
 
 // The first cause that applies to the item i, whose octets start at a place.
-fn item(which: Which, heads: &[Head], i: usize, octets: &[u8], at: usize) -> Judged
+fn item(which: Which, heads: &[Head], i: usize, octets: &[u8], at: usize) -> Result<(), Cause>
     requires { (i < length heads.now) × (at ≤ length octets.now) }
-    ensures { judged_of result ≡ given_item which heads.now i octets.now at }
+    ensures { answer_of result ≡ given_item which heads.now i octets.now at }
 {
-    let head = heads[i];
-    let length = length_at(heads, i);
+    let length = heads[i][2] as usize;
     let whole = is_whole(heads.len() - (i + 1), length, octets.len() - at);
     let octet = judging::first_octet(octets, at, length);
-    judging::item(which, head, whole, octet)
+    judging::item(which, heads[i], whole, octet)
 }
 
 // The cause by which octets are refused that no item has.
@@ -97,23 +73,19 @@ fn left_over(which: Which) -> Cause
 }
 
 // The first cause that applies to items.
-fn items(which: Which, heads: &[Head], octets: &[u8]) -> Judged
-    ensures { judged_of result ≡ given_rules (rules_of which) (cause_of which) heads.now octets.now }
+// Not the reader's `items`: heads and octets stand apart here, and octets may be left over.
+fn items(which: Which, heads: &[Head], octets: &[u8]) -> Result<(), Cause>
+    ensures { answer_of result ≡ given_rules (rules_of which) (cause_of which) heads.now octets.now }
 {
-    let mut at: usize = 0;
-    let mut i: usize = 0;
-    while i < heads.len() {
-        let judged = item(which, heads, i, octets, at);
-        if let Judged::Refused(cause) = judged {
-            return Judged::Refused(cause);
-        }
-        at += length_at(heads, i);
-        i += 1;
+    let mut at = 0;
+    for (i, head) in heads.iter().enumerate() {
+        item(which, heads, i, octets, at)?;
+        at += head[2] as usize;
     }
     if at == octets.len() {
-        Judged::Fine
+        Ok(())
     } else {
-        Judged::Refused(left_over(which))
+        Err(left_over(which))
     }
 }
 
@@ -129,39 +101,30 @@ pub(crate) fn total_of(events: &[Head], replies: &[Head]) -> usize
 fn is_narrow(configuration: Configuration) -> bool
     ensures { result ≡ is_narrow configuration }
 {
-    let address = configuration.address;
-    let modem = configuration.modem;
-    let nid = configuration.nid;
-    (address.0 < ADDRESS_LIMIT) & (modem.0 < ADDRESS_LIMIT) & (nid.0 < NID_LIMIT)
+    configuration.address.0 < ADDRESS_LIMIT
+        && configuration.modem.0 < ADDRESS_LIMIT
+        && configuration.nid.0 < NID_LIMIT
 }
 
 // The first of causes 1 to 14 that applies.
-pub(crate) fn judge(
-    configuration: Configuration,
-    events: &[Head],
-    octets: &[u8],
-    replies: &[Head],
-    frames: &[u8],
-) -> Judged
-    ensures { judged_of result ≡ told (meaning_rules (given configuration events.now octets.now replies.now frames.now)) }
+#[tactic(auto, unfolding(crate::specs::Writing::meaning_rules))]
+pub(crate) fn judge(session: Session) -> Result<(), Cause>
+    ensures { answer_of result ≡ told (meaning_rules (given_in session.entry)) }
 {
-    if !(total_of(events, replies) <= MOST_OCTETS) {
-        return Judged::Refused(Cause::TooLong);
+    if total_of(session.events, session.replies) > MOST_OCTETS {
+        return Err(Cause::TooLong);
     }
-    if !(replies.len() == events.len()) {
-        return Judged::Refused(Cause::CountsDiffer);
+    if session.replies.len() != session.events.len() {
+        return Err(Cause::CountsDiffer);
     }
-    if !is_narrow(configuration) {
-        return Judged::Refused(Cause::TooWide);
+    if !is_narrow(session.configuration) {
+        return Err(Cause::TooWide);
     }
-    if !judging::is_set(configuration) {
-        return Judged::Refused(Cause::BadSetting);
+    if !judging::is_set(session.configuration) {
+        return Err(Cause::BadSetting);
     }
-    let judged = items(Which::Events, events, octets);
-    match judged {
-        Judged::Fine => items(Which::Replies, replies, frames),
-        Judged::Refused(cause) => Judged::Refused(cause),
-    }
+    items(Which::Events, session.events, session.octets)?;
+    items(Which::Replies, session.replies, session.frames)
 }
 
 // Writes a number at a place.
@@ -171,16 +134,16 @@ fn put_number(out: &mut [u8], at: usize, x: usize)
     octets::put_low_number(out, at, 4, x as u64);
 }
 
-// Writes the item i, whose octets start at a place, to another.
-fn put_item(heads: &[Head], i: usize, octets: &[u8], at: usize, out: &mut [u8], to: usize)
-    requires { (i < length heads.now) × (at + length_in (head_in heads.now i) ≤ length octets.now) × (to ≤ most_octets) }
-    ensures { out.new ≡ sets out.old to (octets_of (item_in heads.now i octets.now at)) }
+// Writes the item with a head, whose octets start at a place, to another.
+fn put_item(head: Head, octets: &[u8], at: usize, out: &mut [u8], to: usize)
+    requires { (at + length_in head ≤ length octets.now) × (to ≤ most_octets) }
+    ensures { out.new ≡ sets out.old to (octets_of (item_of head (part octets.now at (length_in head)))) }
 {
-    let length = length_at(heads, i);
-    put_number(out, to, wide(heads[i][0]));
-    put_number(out, to + 4, wide(heads[i][1]));
-    put_number(out, to + 4 + 4, length);
-    octets::copy(octets, at, length, out, to + 4 + 4 + 4);
+    let [first, second, length] = head;
+    put_number(out, to, first as usize);
+    put_number(out, to + 4, second as usize);
+    put_number(out, to + 4 + 4, length as usize);
+    octets::copy(octets, at, length as usize, out, to + ITEM_OCTETS);
 }
 
 // Writes items from a place on.
@@ -188,15 +151,13 @@ fn put_items(heads: &[Head], octets: &[u8], out: &mut [u8], from: usize)
     requires { Fitting heads.now octets.now from }
     ensures { out.new ≡ sets out.old from (list_octets (items_of heads.now octets.now)) }
 {
-    let mut to: usize = from;
-    let mut at: usize = 0;
-    let mut i: usize = 0;
-    while i < heads.len() {
-        put_item(heads, i, octets, at, out, to);
-        let length = length_at(heads, i);
-        to = to + ITEM_OCTETS + length;
-        at = at + length;
-        i += 1;
+    let mut to = from;
+    let mut at = 0;
+    for head in heads {
+        put_item(*head, octets, at, out, to);
+        let length = head[2] as usize;
+        to += ITEM_OCTETS + length;
+        at += length;
     }
 }
 
@@ -215,46 +176,38 @@ fn put_head(out: &mut [u8], events: usize, replies: usize, start: usize, total: 
 fn put_settings(out: &mut [u8], configuration: Configuration)
     ensures { out.new ≡ sets out.old settings_start (numbers (settings_of configuration)) }
 {
-    let exemption = configuration.exemption;
-    let edition = configuration.edition;
-    let carriers = configuration.carriers;
-    put_number(out, SETTINGS, wide(exemption));
-    put_number(out, SETTINGS + 4, wide(edition));
-    put_number(out, SETTINGS + 4 + 4, wide(carriers));
+    put_number(out, SETTINGS, configuration.exemption as usize);
+    put_number(out, SETTINGS + 4, configuration.edition as usize);
+    put_number(out, SETTINGS + 4 + 4, configuration.carriers as usize);
 }
 
 // Writes the configuration behind the head.
 fn put_configuration(out: &mut [u8], configuration: Configuration)
     ensures { out.new ≡ sets out.old head_octets (encode fields (values_of configuration)) }
 {
-    let address = configuration.address;
-    let modem = configuration.modem;
-    let nid = configuration.nid;
-    let nmk = configuration.nmk;
-    octets::put_number(out, HEAD_OCTETS, 6, address.0);
-    octets::put_number(out, HEAD_OCTETS + 6, 6, modem.0);
-    octets::put_low_number(out, HEAD_OCTETS + 12, 7, nid.0);
-    octets::put_number(out, HEAD_OCTETS + 19, 8, nmk.0);
-    octets::put_number(out, HEAD_OCTETS + 27, 8, nmk.1);
+    octets::put_number(out, HEAD_OCTETS, 6, configuration.address.0);
+    octets::put_number(out, HEAD_OCTETS + 6, 6, configuration.modem.0);
+    octets::put_low_number(out, HEAD_OCTETS + 12, 7, configuration.nid.0);
+    octets::put_number(out, HEAD_OCTETS + 19, 8, configuration.nmk.0);
+    octets::put_number(out, HEAD_OCTETS + 27, 8, configuration.nmk.1);
     put_settings(out, configuration);
 }
 
 // Writes the log.
-pub(crate) fn put_log(
-    configuration: Configuration,
-    events: &[Head],
-    octets: &[u8],
-    replies: &[Head],
-    frames: &[u8],
-    out: &mut [u8],
-)
-    requires { told (meaning_rules (given configuration events.now octets.now replies.now frames.now)) ≡ yes tt }
-    ensures { out.new ≡ sets out.old 0 (log_octets (log_of (given configuration events.now octets.now replies.now frames.now))) }
+pub(crate) fn put_log(session: Session, out: &mut [u8])
+    requires { told (meaning_rules (given_in session)) ≡ yes tt }
+    ensures { out.new ≡ sets out.old 0 (log_octets (log_of (given_in session.entry))) }
 {
-    let start = end_of(events, EVENTS_START);
-    let total = end_of(replies, start);
-    put_head(out, events.len(), replies.len(), start, total);
-    put_configuration(out, configuration);
-    put_items(events, octets, out, EVENTS_START);
-    put_items(replies, frames, out, start);
+    let start = end_of(session.events, EVENTS_START);
+    let total = end_of(session.replies, start);
+    put_head(
+        out,
+        session.events.len(),
+        session.replies.len(),
+        start,
+        total,
+    );
+    put_configuration(out, session.configuration);
+    put_items(session.events, session.octets, out, EVENTS_START);
+    put_items(session.replies, session.frames, out, start);
 }

@@ -1,5 +1,6 @@
 -- The station of the log's configuration, and the places that were read.
 use mathlib.Core.Path.{sym, ap, ◌∙◌, subst}
+use native.Mathlib.Omega.{arith}
 use Rattle.messages.specs.Reading.{yes}
 use Rattle.rules.specs.declared.Station.{Station}
 use Rattle.session_log.specs.declared.Places.{Places}
@@ -12,7 +13,7 @@ use Rattle.replaying.proofs.difference_in.Goals as goal
 pub first_difference-requires : goal.first_difference-requires
 first_difference-requires c =
     let l = c.args.log.now in (
-      record { kept = c.station_of-station.ensures.1; output = sym c.output-out.ensures },
+      record { kept = c.station_of-station.ensures.1; output = omega arith },
       subst (λ (p : Places). Listed l p.count p.events p.replies) (sym (right_places l c.args.places c.requires)) (right_lists l c.args.places c.requires),
     )
 

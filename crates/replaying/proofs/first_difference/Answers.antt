@@ -1,5 +1,4 @@
 -- From event to event.
-use borrow.Author.Tests.{not-true, not-false}
 use native.Mathlib.Omega.{arith}
 use Rattle.replaying.proofs.WalkLaws.{going_start, going_end, going_stand, going_differs, going_next}
 use borrow.Author.Rules.{rules}
@@ -10,17 +9,17 @@ loop-i-init c =
     let a = c.args in
     (going_start a.station a.log.now a.count a.events a.replies c.requires.0.kept c.requires.1, search rules)
 
-pub one_event-turn-requires : goal.one_event-turn-requires
-one_event-turn-requires c =
+pub one_event-requires : goal.one_event-requires
+one_event-requires c =
     let a = c.args in (
       record { kept = c.loop-i.invariant.0.kept; output = c.loop-i.invariant.1.0 },
       going_stand a.station a.log.now a.count a.events a.replies c.loop-i.s c.loop-i.event c.loop-i.reply c.loop-i.i c.loop-i.invariant.0 (omega arith),
     )
 
-pub returns-then-not-turn : goal.returns-then-not-turn
-returns-then-not-turn c =
+pub returns-in_default : goal.returns-in_default
+returns-in_default c =
     let a = c.args in
-    going_differs a.station a.log.now a.count a.events a.replies c.loop-i.s c.loop-i.event c.loop-i.reply c.loop-i.i c.loop-i.invariant.0 (omega arith) c.one_event-turn.result c.one_event-turn.ensures (not-true _ c.if-not-turn.true)
+    going_differs a.station a.log.now a.count a.events a.replies c.loop-i.s c.loop-i.event c.loop-i.reply c.loop-i.i c.loop-i.invariant.0 (omega arith) c.one_event.result c.one_event.ensures c.in_default.is
 
 pub behind-event-requires : goal.behind-event-requires
 behind-event-requires c =
@@ -38,7 +37,7 @@ pub loop-i-preserved : goal.loop-i-preserved
 loop-i-preserved c =
     let a = c.args in (
       rw (c.behind-event.ensures, c.behind-reply.ensures)
-          (going_next a.station a.log.now a.count a.events a.replies c.loop-i.s c.loop-i.event c.loop-i.reply c.loop-i.i c.loop-i.invariant.0 (omega arith) c.one_event-turn.result c.one_event-turn.ensures (not-false _ c.if-not-turn.false)),
+          (going_next a.station a.log.now a.count a.events a.replies c.loop-i.s c.loop-i.event c.loop-i.reply c.loop-i.i c.loop-i.invariant.0 (omega arith) c.one_event.result c.one_event.ensures c.in-Some.next c.in-Some.is),
       search rules,
     )
 

@@ -1,5 +1,4 @@
 -- From event to event.
-use Prim.Native.Nat.{◌-◌}
 use mathlib.Core.Path.{◌≡◌}
 use lib.ListN.{length}
 use Rattle.script.specs.Replies.{longest_reply}
@@ -8,6 +7,3 @@ use Rattle.replaying.proofs.first_difference.Given as goal
 
 abbrev pub invariant-loop-i : goal.invariant-loop-i
 invariant-loop-i l = Going l.initial.s l.log l.count l.events l.replies l.s l.event l.reply l.i × ((length l.out ≡ longest_reply) × (length l.out ≡ length l.initial.out))
-
-abbrev pub decreases-loop-i : goal.decreases-loop-i
-decreases-loop-i l = l.count - l.i

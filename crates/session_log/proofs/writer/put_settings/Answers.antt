@@ -6,5 +6,5 @@ use Rattle.session_log.proofs.writer.put_settings.Goals as goal
 pub returns : goal.returns
 returns c =
     let a = c.args in
-    rw (c.put_number-3.ensures, c.wide-3.ensures.0, c.put_number-2.ensures, c.wide-2.ensures.0, c.put_number.ensures, c.wide.ensures.0)
+    rw (c.put_number-3.ensures, c.put_number-2.ensures, c.put_number.ensures)
     (numbers_stored (settings_of a.configuration) a.out.now settings_start)
