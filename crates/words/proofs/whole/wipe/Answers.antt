@@ -4,4 +4,4 @@ use borrow.Author.Rules.{rules}
 use Rattle.words.proofs.whole.wipe.Goals as goal
 
 pub returns : goal.returns
-returns c = wiped _ _ _ (search rules) (search rules) (search (rules, c.fill-3.ensures.after, c.told-spread))
+returns c = wiped _ _ _ (search (rules, c.fill.ensures.after, c.told-words)) (search (rules, c.fill-2.ensures.after, c.told-sums)) (search (rules, c.fill-3.ensures.after, c.told-spread))
