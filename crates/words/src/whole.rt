@@ -25,12 +25,13 @@ fn read_all(words: &StationWords, sums: &StationSums, spread: &StationSpread) ->
 pub fn unpack(words: &StationWords, sums: &StationSums, spread: &StationSpread) -> Station
     ensures { (result ≡ station_of words.now sums.now spread.now) × Invariant result }
 {
+    let records = read_all(words, sums, spread);
     Station {
         config: head::config_of(words),
         state: head::state_of(words),
         pilot: head::pilot_of(words),
         clock: head::clock_of(words),
-        records: read_all(words, sums, spread),
+        records,
     }
 }
 
