@@ -5,7 +5,7 @@ use mathlib.Core.Bool.{Bool, true, false, cond, false≢true}
 use mathlib.Core.List.{List, [], ◌∷◌}
 use native.Mathlib.Omega.{arith}
 use borrow.Author.Tests.{ltb-true}
-use lib.Dec.{ltb}
+use lib.Dec.{leb, ltb}
 use lib.IntN.{ℤ, pos, negsuc, nat_abs, sub_ℕ, ◌+ℤ◌, neg_ℤ-neg_ℤ}
 use lib.ListN.{length, get_or}
 use lib.Signed.{mag}
@@ -25,8 +25,23 @@ arrives z h = to_z-of_z {w = w16} (record { sfits = h })
 
 -- ---- its range and its reduction, by how far it lies below 0
 
-pub level_tested : (z : ℤ) (b : Bool) → mag z < 2 ^ 15 → b ≡ is_level (bits16 z) → b ≡ is_level z
-level_tested z b f e = e ∙ ap is_level (arrives z f)
+pub level_arrives : (z : ℤ) (b : Bool) → mag z < 2 ^ 15 → b ≡ is_level (bits16 z) → b ≡ is_level z
+level_arrives z b f e = e ∙ ap is_level (arrives z f)
+
+-- how far a level lies below 0; 255 for one above it
+abbrev pub depth_of : ℤ → ℕ
+depth_of (pos zero) = 0
+depth_of (pos (suc n)) = 255
+depth_of (negsuc n) = suc n
+
+level_depth : (z : ℤ) → leb (depth_of z) 128 ≡ is_level z
+level_depth (pos zero) = refl
+level_depth (pos (suc n)) = refl
+level_depth (negsuc n) = refl
+
+-- a level is one where it lies at most 128 below 0
+pub level_tested : (z : ℤ) (d : ℕ) → mag z < 2 ^ 15 → d ≡ depth_of (bits16 z) → leb d 128 ≡ is_level z
+level_tested z d f e = ap (λ (k : ℕ). leb k 128) (e ∙ ap depth_of (arrives z f)) ∙ level_depth z
 
 -- n less m where it is positive
 positive_sub : (n m : ℕ) → positive (sub_ℕ n m) ≡ n - m

@@ -18,12 +18,16 @@ use Rattle.records.specs.Heard.{set_size, marking}
 
 -- ---- the test
 
--- a set has no digit past those that it can hold
-pub beyond : (k h : ℕ) → set_size ≤ k → h < 2 ^ set_size → ltb k set_size ≡ is_in k h
+-- a digit of a number that is too small to have it
+pub beyond : (n k h : ℕ) → n ≤ k → h < 2 ^ n → false ≡ is_in k h
 unfolding is_in
-beyond k h l b =
+beyond n k h l b =
     let z : h / 2 ^ k ≡ 0 = div-eq_of_lt (lt_of_lt_of_le b (pow_mono l)) in
-    le-ltb k set_size l ∙ sym (ne_eqb (h / 2 ^ k % 2) 1 (λ (e : h / 2 ^ k % 2 ≡ 1). omega arith))
+    sym (ne_eqb (h / 2 ^ k % 2) 1 (λ (e : h / 2 ^ k % 2 ≡ 1). omega arith))
+
+-- a set has no digit past those that it can hold
+pub past_set : (k h : ℕ) → set_size ≤ k → h < 2 ^ set_size → ltb k set_size ≡ is_in k h
+past_set k h l b = le-ltb k set_size l ∙ beyond set_size k h l b
 
 -- a digit that is not 1
 even : (k h : ℕ) → is_in k h ≡ false → h / 2 ^ k % 2 ≡ 0

@@ -5,7 +5,7 @@ ghost use Rattle.rules.specs.Sounds.{is_in};
 ghost use Rattle.records.specs.Heard.{marking};
 
 // Whether a count is in the set.
-#[tactic(auto, using(crate::proofs::HeardLaws::beyond), unfolding(rules::specs::Sounds::is_in))]
+#[tactic(auto, using(crate::proofs::HeardLaws::past_set), unfolding(rules::specs::Sounds::is_in))]
 pub fn is_heard(heard: u16, count: u8) -> bool
     ensures { result ≡ is_in count heard }
 {
