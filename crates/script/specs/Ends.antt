@@ -1,11 +1,12 @@
 -- What starting a script and carrying an event out leave at either end, of a station or of a car.
-use Rattle.std.specs.Prelude.{ℕ, ◌≡◌, cond, ◌&&◌, List, [], leb, length, get_or}
+use Rattle.std.specs.Prelude.{ℕ, ◌≡◌, Bool, true, false, cond, ◌&&◌, List, [], leb, length, get_or}
 use Rattle.std.specs.Prelude as std
 use Rattle.std.specs.Prelude.{Some, None}
 use Rattle.std.proofs.Math.Option.{Option, none, some}
 use Rattle.octets.specs.Octets.{splice}
 use Rattle.ends.specs.Outcomes.{Outcome}
 use Rattle.script.specs.declared.Happened.{Happened}
+use Rattle.script.specs.declared.Started.{Started}
 use Rattle.script.specs.Events.{Event, call, query, most_octets, event_in}
 use Rattle.script.specs.Replies.{number, longest_reply, refusal_number}
 
@@ -14,6 +15,12 @@ pub record StartsAs {S : Type 0} (Kept : S → Type 0) (first : S) (y : Outcome)
   pub left : s ≡ first
   pub answer : octets ≡ number (refusal_number y)
   pub kept : Kept s
+
+module _ {S : Type 0} where
+  -- the whole promise of starting by a head that keeps to the layout or does not: a start there, and nothing else
+  abbrev pub BeginsAs : (head : Bool) → (Started S → Type 0) → std.Option (Started S) → Type 0
+  BeginsAs head Starts None = head ≡ false
+  BeginsAs head Starts (Some r) = (head ≡ true) × Starts r
 
 -- the event of the kind k with a reading, a room and the octets s, with an output of n octets: none is carried out where the longest reply would not fit, or where the room is over the most octets
 abbrev pub carried_out_as : {A : Type 0} → (ℕ → ℕ → List ℕ → List (Option A)) → (k t room : ℕ) → List ℕ → ℕ → Option A
