@@ -5,30 +5,30 @@ use crate::items::{Item, Items};
 use session_log::{Cause, EVENTS_START};
 use std::io::{self, Write};
 
-// The sentence for a cause by which a log is refused; octets of the log are counted from 0.
+// The sentence for a cause by which a log is refused, with its line end, so that both are one write; octets of the log are counted from 0.
 fn sentence(cause: Cause, log: &[u8]) -> &'static str {
     match cause {
-        Cause::TooLong => "the log is longer than 65,536 octets",
-        Cause::TooShort => "the log has fewer than 20 octets: it ends before its head does",
-        Cause::CountsDiffer => "octet 4: the number of replies is not that of events",
-        Cause::EventsElsewhere => "octet 8: the events do not start where the configuration ends",
-        Cause::RepliesElsewhere => "octet 12: the replies do not start where the events end",
+        Cause::TooLong => "the log is longer than 65,536 octets\n",
+        Cause::TooShort => "the log has fewer than 20 octets: it ends before its head does\n",
+        Cause::CountsDiffer => "octet 4: the number of replies is not that of events\n",
+        Cause::EventsElsewhere => "octet 8: the events do not start where the configuration ends\n",
+        Cause::RepliesElsewhere => "octet 12: the replies do not start where the events end\n",
         Cause::EndElsewhere => {
-            "octet 16: the total length is not the log's, or not where the replies end"
+            "octet 16: the total length is not the log's, or not where the replies end\n"
         }
         Cause::BadSetting if session_log::configuration_in(log).exemption > 1 => {
-            "octet 55: whether validation is not required is neither 1 nor 0"
+            "octet 55: whether validation is not required is neither 1 nor 0\n"
         }
-        Cause::BadSetting => "octet 59: the edition is neither 1 nor 0",
-        Cause::BadKind => "the kind is over 4",
-        Cause::BadReading => "the reading is not 0, and it is neither a tick nor a pilot change",
+        Cause::BadSetting => "octet 59: the edition is neither 1 nor 0\n",
+        Cause::BadKind => "the kind is over 4\n",
+        Cause::BadReading => "the reading is not 0, and it is neither a tick nor a pilot change\n",
         Cause::BadEventLength => {
-            "the length is not 1 for a pilot change, or not 0 for a tick, terminate or link up"
+            "the length is not 1 for a pilot change, or not 0 for a tick, terminate or link up\n"
         }
-        Cause::BadPilot => "the pilot state is over 5",
-        Cause::BadIndication => "the indication is over 2, or not 0 beside a refusal",
-        Cause::BadReplyLength => "the length is not 0 beside a refusal",
-        Cause::TooWide | Cause::OutputTooShort => "the log is refused",
+        Cause::BadPilot => "the pilot state is over 5\n",
+        Cause::BadIndication => "the indication is over 2, or not 0 beside a refusal\n",
+        Cause::BadReplyLength => "the length is not 0 beside a refusal\n",
+        Cause::TooWide | Cause::OutputTooShort => "the log is refused\n",
     }
 }
 
@@ -87,5 +87,5 @@ pub(crate) fn tell<W: Write>(to: &mut W, log: &[u8], cause: Cause) -> io::Result
         }
         _ => (),
     }
-    writeln!(to, "{}", sentence(cause, log))
+    to.write_all(sentence(cause, log).as_bytes())
 }
