@@ -58,7 +58,11 @@ pub fn any_validates(words: &StationWords) -> bool
 pub fn held_count(words: &StationWords) -> u32
     ensures { (sums spread : List ℕ) → result ≡ held_count (records_of words.now sums spread) }
 {
-    (0..RECORDS)
-        .filter(|&i| one_record::is_held(words, i))
-        .count() as u32
+    let mut n = 0;
+    for i in 0..RECORDS {
+        if one_record::is_held(words, i) {
+            n += 1;
+        }
+    }
+    n
 }
