@@ -54,7 +54,7 @@ pub fn any_validates(words: &StationWords) -> bool
     (0..RECORDS).any(|i| one_record::is_validating(words, i))
 }
 
-// How many records are held.
+// How many records are held. Not by `filter` and `count`, by which sixteen that are took 319 instructions for 190.
 pub fn held_count(words: &StationWords) -> u32
     ensures { (sums spread : List ℕ) → result ≡ held_count (records_of words.now sums spread) }
 {
